@@ -1,0 +1,54 @@
+-- A test that found a cause is the refusal; one that found nothing bounds the numbers that the callee asks for. Assumes nothing.
+use mathlib.Core.Path.{ap, _∙_}
+use Rattle.matrix.specs.Records.{ofArray2}
+use Rattle.matrix.specs.Places.{swapElements}
+use Rattle.matrix.proofs.Ranges.{passed, elements-within, stopped, went-on}
+use borrow.Author.Needs.{needs}
+use Rattle.matrix.proofs.records.Matrix2.swap_elements.Statement.{statement}
+use Rattle.matrix.proofs.records.Matrix2.swap_elements.Tie as tie
+
+check-elements-requires : tie.Need-check-elements-requires
+check-elements-requires c κs = search needs
+
+enum-known-cause : tie.Need-enum-known-cause
+enum-known-cause c = search needs
+
+enum-told : tie.Need-enum-told
+enum-told c = search needs
+
+into-array-requires : tie.Need-into-array-requires
+into-array-requires c κs = search needs
+
+elements-swapped2-requires : tie.Need-elements-swapped2-requires
+elements-swapped2-requires c κs =
+    let told = c .before in
+    elements-within 2 _ _ _ _ (passed _ _ (told .before .before .check-elements .ensures) (told .enum-told .given .1))
+
+from-array-requires : tie.Need-from-array-requires
+from-array-requires c κs = search needs
+
+returns : tie.Need-returns
+returns c =
+    stopped _ _ (c .before .before .before .check-elements .ensures) _ _ (c .before .cause .given .1)
+
+returns-2 : tie.Need-returns-2
+returns-2 c =
+    let swapped = c .before in
+    let made = swapped .before in
+    let told = made .before in
+    let given = told .before .before .before .args in
+    went-on _ _ (told .before .before .check-elements .ensures) (told .enum-told .given .1)
+    (c .from-array .ensures ∙ ap ofArray2 (swapped .elements-swapped2 .ensures ∙ ap (λ m. swapElements m (given .ac .0) (given .ar .0) (given .bc .0) (given .br .0)) (made .into-array .ensures)))
+
+pub swap-elements-spec : {M : Type 1} → statement M
+swap-elements-spec =
+    tie.close
+    (tie.spec
+    check-elements-requires
+    enum-known-cause
+    enum-told
+    into-array-requires
+    elements-swapped2-requires
+    from-array-requires
+    returns
+    returns-2)

@@ -1,0 +1,60 @@
+-- Two answers that mean the same outcome are the same answer: so a promise on the meaning leaves nothing loose.
+-- Assumes nothing.
+use mathlib.Core.Path.{_≡_, refl, sym, ap, _∙_}
+use Prim.Native.Nat.{ℕ, zero, suc}
+use Rattle.vector.specs.declared.refusal.Refusal.{Refusal}
+use Rattle.vector.specs.declared.refusal.Refusal.the-variants.{OutOfRange, Singular, InputLength, OutputLength, Order, NotWhole}
+use Rattle.vector.specs.declared.Vector2Answer.{Vector2Answer}
+use Rattle.vector.specs.declared.Vector3Answer.{Vector3Answer}
+use Rattle.vector.specs.declared.Vector4Answer.{Vector4Answer}
+use Rattle.vector.specs.declared.Vector2Answer.the-variants as answer2
+use Rattle.vector.specs.declared.Vector3Answer.the-variants as answer3
+use Rattle.vector.specs.declared.Vector4Answer.the-variants as answer4
+use Rattle.vector.specs.Refusals.{Outcome, given, refused, number, vector2Outcome, vector3Outcome, vector4Outcome}
+
+-- the cause that a number stands for
+abbrev pub cause : ℕ → Refusal
+cause zero = OutOfRange
+cause (suc zero) = OutOfRange
+cause (suc (suc zero)) = Singular
+cause (suc (suc (suc zero))) = InputLength
+cause (suc (suc (suc (suc zero)))) = OutputLength
+cause (suc (suc (suc (suc (suc zero))))) = Order
+cause (suc (suc (suc (suc (suc (suc n)))))) = NotWhole
+
+-- no two causes share a number
+pub cause-number : (r : Refusal) → cause (number r) ≡ r
+cause-number OutOfRange = refl
+cause-number Singular = refl
+cause-number InputLength = refl
+cause-number OutputLength = refl
+cause-number Order = refl
+cause-number NotWhole = refl
+
+-- what can be read back from its meaning has one meaning
+pub one-meaning : {A B : Type 0} (meaning : A → B) (back : B → A) → ((a : A) → back (meaning a) ≡ a) → (a b : A) → meaning a ≡ meaning b → a ≡ b
+one-meaning meaning back there a b e = sym (there a) ∙ (ap back e ∙ there b)
+
+-- the answer of an outcome, for an answer with a variant of each
+abbrev pub answerOf : {A B : Type 0} → (A → B) → (Refusal → B) → Outcome A → B
+answerOf gives refuses (given a) = gives a
+answerOf gives refuses (refused n) = refuses (cause n)
+
+-- an answer of two, three or four numbers is fixed by what it means
+pub vector2-one : (a b : Vector2Answer) → vector2Outcome a ≡ vector2Outcome b → a ≡ b
+vector2-one = one-meaning vector2Outcome (answerOf answer2.Given answer2.Refused) there where
+  there : (a : Vector2Answer) → answerOf answer2.Given answer2.Refused (vector2Outcome a) ≡ a
+  there (answer2.Given v) = refl
+  there (answer2.Refused r) = ap answer2.Refused (cause-number r)
+
+pub vector3-one : (a b : Vector3Answer) → vector3Outcome a ≡ vector3Outcome b → a ≡ b
+vector3-one = one-meaning vector3Outcome (answerOf answer3.Given answer3.Refused) there where
+  there : (a : Vector3Answer) → answerOf answer3.Given answer3.Refused (vector3Outcome a) ≡ a
+  there (answer3.Given v) = refl
+  there (answer3.Refused r) = ap answer3.Refused (cause-number r)
+
+pub vector4-one : (a b : Vector4Answer) → vector4Outcome a ≡ vector4Outcome b → a ≡ b
+vector4-one = one-meaning vector4Outcome (answerOf answer4.Given answer4.Refused) there where
+  there : (a : Vector4Answer) → answerOf answer4.Given answer4.Refused (vector4Outcome a) ≡ a
+  there (answer4.Given v) = refl
+  there (answer4.Refused r) = ap answer4.Refused (cause-number r)

@@ -1,0 +1,3 @@
+pub mod Arithmetic
+pub mod Refusals
+pub mod Vectors

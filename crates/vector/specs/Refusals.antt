@@ -1,0 +1,58 @@
+-- Document 01, 'The numbers a refusal carries': an outcome is the values given, or the number of the refusal.
+-- What each kind of answer of this crate means as an outcome. Assumes nothing.
+use Prim.Native.Nat.{ℕ}
+use mathlib.Core.Bool.{cond}
+use lib.Dec.{ltb}
+use Rattle.vector.specs.declared.refusal.Refusal.{Refusal}
+use Rattle.vector.specs.declared.refusal.Refusal.the-variants.{OutOfRange, Singular, InputLength, OutputLength, Order, NotWhole}
+use Rattle.vector.specs.declared.Vector2.{Vector2}
+use Rattle.vector.specs.declared.Vector3.{Vector3}
+use Rattle.vector.specs.declared.Vector4.{Vector4}
+use Rattle.vector.specs.declared.Vector2Answer.{Vector2Answer}
+use Rattle.vector.specs.declared.Vector3Answer.{Vector3Answer}
+use Rattle.vector.specs.declared.Vector4Answer.{Vector4Answer}
+use Rattle.vector.specs.declared.Vector2Answer.the-variants as answer2
+use Rattle.vector.specs.declared.Vector3Answer.the-variants as answer3
+use Rattle.vector.specs.declared.Vector4Answer.the-variants as answer4
+
+-- the values given, or the number of the refusal and no values
+pub data Outcome (A : Type 0) : Type 0 where
+  given : A → Outcome A
+  refused : ℕ → Outcome A
+
+-- the number of each cause
+abbrev pub number : Refusal → ℕ
+number OutOfRange = 1
+number Singular = 2
+number InputLength = 3
+number OutputLength = 4
+number Order = 5
+number NotWhole = 6
+
+-- refused for this cause
+abbrev pub refusedFor : {A : Type 0} → Refusal → Outcome A
+refusedFor cause = refused (number cause)
+
+-- what follows a check: its refusal, or the outcome where it found nothing
+abbrev pub after : {A : Type 0} → Outcome Unit → Outcome A → Outcome A
+after (given _) outcome = outcome
+after (refused n) outcome = refused n
+
+-- refusal 1 unless the number is below the order or the length
+unfoldable pub below : ℕ → ℕ → Outcome Unit
+below limit n = cond (ltb n limit) (given tt) (refusedFor OutOfRange)
+
+-- what an answer of two numbers means
+abbrev pub vector2Outcome : Vector2Answer → Outcome Vector2
+vector2Outcome (answer2.Given v) = given v
+vector2Outcome (answer2.Refused cause) = refusedFor cause
+
+-- what an answer of three numbers means
+abbrev pub vector3Outcome : Vector3Answer → Outcome Vector3
+vector3Outcome (answer3.Given v) = given v
+vector3Outcome (answer3.Refused cause) = refusedFor cause
+
+-- what an answer of four numbers means
+abbrev pub vector4Outcome : Vector4Answer → Outcome Vector4
+vector4Outcome (answer4.Given v) = given v
+vector4Outcome (answer4.Refused cause) = refusedFor cause
