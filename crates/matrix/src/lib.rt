@@ -1,2 +1,3 @@
+pub mod arithmetic;
 pub mod places;
 pub mod records;
