@@ -1,2 +1,3 @@
-pub mod Arrays
+pub mod Kept
 pub mod Ranges
+pub mod Singular

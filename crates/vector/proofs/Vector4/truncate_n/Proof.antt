@@ -1,3 +1,4 @@
+-- Each arm drops the element that the definition drops at its n; past them all the number is refused. Assumes nothing.
 use native.Mathlib.Omega.{arith}
 use Prim.Native.Nat.{_≤_}
 use lib.Dec.{lit<}
@@ -5,43 +6,31 @@ use Rattle.vector.proofs.Checks.{within, outside}
 use borrow.Author.Needs.{needs}
 use Rattle.vector.proofs.Vector4.truncate_n.Statement.{statement}
 use Rattle.vector.proofs.Vector4.truncate_n.Tie as tie
-use Rattle.vector.proofs.Vector4.truncate_n.Reads as reads
-use Rattle.vector.proofs.Vector4.truncate_n.Lts as lts
-use Rattle.vector.proofs.Vector3.new.Reads as new-reads
 
--- src/lib.rt:187:39
 new-requires : tie.Need-new-requires
 new-requires c κs = search needs
 
--- src/lib.rt:188:39
 new-requires-2 : tie.Need-new-requires-2
 new-requires-2 c κs = search needs
 
--- src/lib.rt:189:39
 new-requires-3 : tie.Need-new-requires-3
 new-requires-3 c κs = search needs
 
--- src/lib.rt:190:39
 new-requires-4 : tie.Need-new-requires-4
 new-requires-4 c κs = search needs
 
--- src/lib.rt:183:5
 returns : tie.Need-returns
 returns c = rw (c .before .match .keys1) (cc (within 4 0 (lit< tt)))
 
--- src/lib.rt:183:5
 returns-2 : tie.Need-returns-2
 returns-2 c = rw (c .before .match .keys2) (cc (within 4 1 (lit< tt)))
 
--- src/lib.rt:183:5
 returns-3 : tie.Need-returns-3
 returns-3 c = rw (c .before .match .keys3) (cc (within 4 2 (lit< tt)))
 
--- src/lib.rt:183:5
 returns-4 : tie.Need-returns-4
 returns-4 c = rw (c .before .match .keys4) (cc (within 4 3 (lit< tt)))
 
--- src/lib.rt:183:5
 returns-5 : tie.Need-returns-5
 returns-5 c =
     let r = c .match .rest in

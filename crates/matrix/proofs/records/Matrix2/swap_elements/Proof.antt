@@ -1,7 +1,4 @@
 -- A test that found a cause is the refusal; one that found nothing bounds the numbers that the callee asks for. Assumes nothing.
-use mathlib.Core.Path.{ap, _∙_}
-use Rattle.matrix.specs.Records.{ofArray2}
-use Rattle.matrix.specs.Places.{swapElements}
 use Rattle.matrix.proofs.Ranges.{passed, elements-within, stopped, went-on}
 use borrow.Author.Needs.{needs}
 use Rattle.matrix.proofs.records.Matrix2.swap_elements.Statement.{statement}
@@ -36,9 +33,8 @@ returns-2 c =
     let swapped = c .before in
     let made = swapped .before in
     let told = made .before in
-    let given = told .before .before .before .args in
     went-on _ _ (told .before .before .check-elements .ensures) (told .enum-told .given .1)
-    (c .from-array .ensures ∙ ap ofArray2 (swapped .elements-swapped2 .ensures ∙ ap (λ m. swapElements m (given .ac .0) (given .ar .0) (given .bc .0) (given .br .0)) (made .into-array .ensures)))
+    (rw (c .from-array .ensures, swapped .elements-swapped2 .ensures, made .into-array .ensures))
 
 pub swap-elements-spec : {M : Type 1} → statement M
 swap-elements-spec =

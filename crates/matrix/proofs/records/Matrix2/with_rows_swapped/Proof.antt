@@ -1,10 +1,4 @@
 -- The columns that the callees exchanged make the matrix that is asked for. Assumes nothing.
-use mathlib.Core.Path.{ap, _∙_}
-use mathlib.Core.List.{[], _∷_}
-use lib.Ieee.{nan}
-use Rattle.matrix.specs.Records.{array2, ofArray2}
-use Rattle.matrix.specs.Places.{exchange}
-use Rattle.matrix.proofs.Arrays.{at-column, mapped}
 use borrow.Author.Needs.{needs}
 use Rattle.matrix.proofs.records.Matrix2.with_rows_swapped.Statement.{statement}
 use Rattle.matrix.proofs.records.Matrix2.with_rows_swapped.Tie as tie
@@ -29,15 +23,8 @@ from-array-requires c κs = search needs
 
 returns : tie.Need-returns
 returns c =
-    let made = c .before .before .before .before .before in
-    let given = made .before .args in
-    let f = exchange nan (given .a) (given .b) in
-    let e = made .into-array .ensures in
-    let c0 = c .before .before .before .exchanged2 in
-    let c1 = c .before .exchanged22 in
-    c .from-array .ensures ∙ ap ofArray2
-    (mapped f (array2 (given .self)) (c0 .result ∷ c1 .result ∷ [])
-    (at-column f e 0 (c0 .ensures), (at-column f e 1 (c1 .ensures), tt)))
+    rw
+    (c .from-array .ensures, c .before .before .before .exchanged2 .ensures, c .before .exchanged22 .ensures, c .before .before .before .before .before .into-array .ensures)
 
 pub with-rows-swapped-spec : {M : Type 1} → statement M
 with-rows-swapped-spec =

@@ -1,28 +1,20 @@
+-- The columns that the callees answered make the product. Assumes nothing.
 use borrow.Author.Needs.{needs}
 use Rattle.matrix.proofs.records.Matrix3.mul.Statement.{statement}
 use Rattle.matrix.proofs.records.Matrix3.mul.Tie as tie
-use Rattle.matrix.proofs.records.Matrix3.mul.Reads as reads
-use Rattle.matrix.proofs.records.Matrix3.mul.Lts as lts
-use Rattle.matrix.proofs.records.Matrix3.from_cols.Reads as from-cols-reads
-use Rattle.matrix.proofs.records.Matrix3.mul_vector.Reads as mul-vector-reads
 
--- src/arithmetic.rt:181:13
 mul-vector-requires : tie.Need-mul-vector-requires
 mul-vector-requires c κs = search needs
 
--- src/arithmetic.rt:182:13
 mul-vector-requires-2 : tie.Need-mul-vector-requires-2
 mul-vector-requires-2 c κs = search needs
 
--- src/arithmetic.rt:183:13
 mul-vector-requires-3 : tie.Need-mul-vector-requires-3
 mul-vector-requires-3 c κs = search needs
 
--- src/arithmetic.rt:180:9
 from-cols-requires : tie.Need-from-cols-requires
 from-cols-requires c κs = search needs
 
--- src/arithmetic.rt:177:5
 returns : tie.Need-returns
 returns c = cc
 

@@ -1,7 +1,5 @@
 -- A test that found a cause is the refusal; one that found nothing bounds the numbers that the callee asks for. Assumes nothing.
-use mathlib.Core.Path.{ap, _∙_}
 use Rattle.vector.proofs.Checks.{passes}
-use Rattle.matrix.specs.Places.{rowOf3}
 use Rattle.matrix.proofs.Ranges.{passed, stopped, went-on}
 use borrow.Author.Needs.{needs}
 use Rattle.matrix.proofs.records.Matrix3.row.Statement.{statement}
@@ -32,9 +30,8 @@ returns-2 : tie.Need-returns-2
 returns-2 c =
     let made = c .before in
     let told = made .before in
-    let given = told .before .before .before .args in
     went-on _ _ (told .before .before .check-row .ensures) (told .enum-told .given .1)
-    (c .row-of3 .ensures ∙ ap (λ m. rowOf3 m (given .r .0)) (made .into-array .ensures))
+    (rw (c .row-of3 .ensures, made .into-array .ensures))
 
 pub row-spec : {M : Type 1} → statement M
 row-spec =

@@ -1,7 +1,4 @@
 -- A test that found a cause is the refusal; one that found nothing bounds the numbers that the callee asks for. Assumes nothing.
-use mathlib.Core.Path.{ap, _∙_}
-use Rattle.matrix.specs.Records.{ofArray3}
-use Rattle.matrix.specs.Places.{swapColumns}
 use Rattle.matrix.proofs.Ranges.{passed, columns-within, stopped, went-on}
 use borrow.Author.Needs.{needs}
 use Rattle.matrix.proofs.records.Matrix3.swap_columns.Statement.{statement}
@@ -36,9 +33,8 @@ returns-2 c =
     let swapped = c .before in
     let made = swapped .before in
     let told = made .before in
-    let given = told .before .before .before .args in
     went-on _ _ (told .before .before .check-columns .ensures) (told .enum-told .given .1)
-    (c .from-array .ensures ∙ ap ofArray3 (swapped .columns-swapped3 .ensures ∙ ap (λ m. swapColumns m (given .a .0) (given .b .0)) (made .into-array .ensures)))
+    (rw (c .from-array .ensures, swapped .columns-swapped3 .ensures, made .into-array .ensures))
 
 pub swap-columns-spec : {M : Type 1} → statement M
 swap-columns-spec =

@@ -1,10 +1,4 @@
 -- The columns that the callees exchanged make the matrix that is asked for. Assumes nothing.
-use mathlib.Core.Path.{ap, _∙_}
-use mathlib.Core.List.{[], _∷_}
-use lib.Ieee.{nan}
-use Rattle.matrix.specs.Records.{array3, ofArray3}
-use Rattle.matrix.specs.Places.{exchange}
-use Rattle.matrix.proofs.Arrays.{at-column, mapped}
 use borrow.Author.Needs.{needs}
 use Rattle.matrix.proofs.records.Matrix3.with_rows_swapped.Statement.{statement}
 use Rattle.matrix.proofs.records.Matrix3.with_rows_swapped.Tie as tie
@@ -35,16 +29,8 @@ from-array-requires c κs = search needs
 
 returns : tie.Need-returns
 returns c =
-    let made = c .before .before .before .before .before .before .before in
-    let given = made .before .args in
-    let f = exchange nan (given .a) (given .b) in
-    let e = made .into-array .ensures in
-    let c0 = c .before .before .before .before .before .exchanged3 in
-    let c1 = c .before .before .before .exchanged32 in
-    let c2 = c .before .exchanged33 in
-    c .from-array .ensures ∙ ap ofArray3
-    (mapped f (array3 (given .self)) (c0 .result ∷ c1 .result ∷ c2 .result ∷ [])
-    (at-column f e 0 (c0 .ensures), (at-column f e 1 (c1 .ensures), (at-column f e 2 (c2 .ensures), tt))))
+    rw
+    (c .from-array .ensures, c .before .before .before .before .before .exchanged3 .ensures, c .before .before .before .exchanged32 .ensures, c .before .exchanged33 .ensures, c .before .before .before .before .before .before .before .into-array .ensures)
 
 pub with-rows-swapped-spec : {M : Type 1} → statement M
 with-rows-swapped-spec =

@@ -1,37 +1,26 @@
+-- The dots that the callees answered make the vector. Assumes nothing.
 use borrow.Author.Needs.{needs}
 use Rattle.matrix.proofs.records.Matrix4.mul_vector.Statement.{statement}
 use Rattle.matrix.proofs.records.Matrix4.mul_vector.Tie as tie
-use Rattle.matrix.proofs.records.Matrix4.mul_vector.Reads as reads
-use Rattle.matrix.proofs.records.Matrix4.mul_vector.Lts as lts
-use Rattle.matrix.proofs.records.Matrix4.transpose.Reads as transpose-reads
-use Rattle.vector.proofs.Vector4.dot.Reads as dot-reads
-use Rattle.vector.proofs.Vector4.new.Reads as new-reads
 
--- src/arithmetic.rt:354:13
 transpose-requires : tie.Need-transpose-requires
 transpose-requires c κs = search needs
 
--- src/arithmetic.rt:356:13
 dot-requires : tie.Need-dot-requires
 dot-requires c κs = search needs
 
--- src/arithmetic.rt:357:13
 dot-requires-2 : tie.Need-dot-requires-2
 dot-requires-2 c κs = search needs
 
--- src/arithmetic.rt:358:13
 dot-requires-3 : tie.Need-dot-requires-3
 dot-requires-3 c κs = search needs
 
--- src/arithmetic.rt:359:13
 dot-requires-4 : tie.Need-dot-requires-4
 dot-requires-4 c κs = search needs
 
--- src/arithmetic.rt:355:9
 new-requires : tie.Need-new-requires
 new-requires c κs = search needs
 
--- src/arithmetic.rt:351:5
 returns : tie.Need-returns
 returns c =
     rw

@@ -1,10 +1,4 @@
 -- The columns that the callees exchanged make the matrix that is asked for. Assumes nothing.
-use mathlib.Core.Path.{ap, _∙_}
-use mathlib.Core.List.{[], _∷_}
-use lib.Ieee.{nan}
-use Rattle.matrix.specs.Records.{array4, ofArray4}
-use Rattle.matrix.specs.Places.{exchange}
-use Rattle.matrix.proofs.Arrays.{at-column, mapped}
 use borrow.Author.Needs.{needs}
 use Rattle.matrix.proofs.records.Matrix4.with_rows_swapped.Statement.{statement}
 use Rattle.matrix.proofs.records.Matrix4.with_rows_swapped.Tie as tie
@@ -41,17 +35,8 @@ from-array-requires c κs = search needs
 
 returns : tie.Need-returns
 returns c =
-    let made = c .before .before .before .before .before .before .before .before .before in
-    let given = made .before .args in
-    let f = exchange nan (given .a) (given .b) in
-    let e = made .into-array .ensures in
-    let c0 = c .before .before .before .before .before .before .before .exchanged4 in
-    let c1 = c .before .before .before .before .before .exchanged42 in
-    let c2 = c .before .before .before .exchanged43 in
-    let c3 = c .before .exchanged44 in
-    c .from-array .ensures ∙ ap ofArray4
-    (mapped f (array4 (given .self)) (c0 .result ∷ c1 .result ∷ c2 .result ∷ c3 .result ∷ [])
-    (at-column f e 0 (c0 .ensures), (at-column f e 1 (c1 .ensures), (at-column f e 2 (c2 .ensures), (at-column f e 3 (c3 .ensures), tt)))))
+    rw
+    (c .from-array .ensures, c .before .before .before .before .before .before .before .exchanged4 .ensures, c .before .before .before .before .before .exchanged42 .ensures, c .before .before .before .exchanged43 .ensures, c .before .exchanged44 .ensures, c .before .before .before .before .before .before .before .before .before .into-array .ensures)
 
 pub with-rows-swapped-spec : {M : Type 1} → statement M
 with-rows-swapped-spec =

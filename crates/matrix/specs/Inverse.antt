@@ -1,0 +1,97 @@
+-- Document 01, module 5: determinants and inverses, term by term as the document writes them.
+-- Orders 2 and 3 divide by the determinant, order 4 multiplies by one reciprocal. Assumes nothing.
+use Prim.Native.Nat.{ℕ, _+_, _%_}
+use mathlib.Core.Bool.{cond}
+use mathlib.Core.List.{map}
+use lib.Dec.{eqb}
+use lib.Ieee.{Float, neg, eq}
+use Rattle.vector.specs.Arithmetic.{_⊕_, _⊖_, _⊗_, _⊘_, zero, one}
+use Rattle.vector.specs.Refusals.{Outcome, given, refusedFor, after}
+use Rattle.vector.specs.Vectors.{vector4, dot4, cross3, divScalar3, without}
+use Rattle.vector.specs.declared.refusal.Refusal.the-variants.{Singular}
+use Rattle.vector.specs.declared.Vector4.{Vector4}
+use Rattle.matrix.specs.Records.{matrix3, matrix4, new2, array4, ofArray3}
+use Rattle.matrix.specs.Places.{transpose3, transpose4}
+use Rattle.matrix.specs.declared.records.Matrix2.{Matrix2}
+use Rattle.matrix.specs.declared.records.Matrix3.{Matrix3}
+use Rattle.matrix.specs.declared.records.Matrix4.{Matrix4}
+
+-- ---- determinants
+
+-- m[0][0]·m[1][1] − m[1][0]·m[0][1]
+unfoldable pub det2 : Matrix2 → Float
+det2 m = m .x .x ⊗ m .y .y ⊖ m .y .x ⊗ m .x .y
+
+-- (first − second) + third, down row 0
+unfoldable pub det3 : Matrix3 → Float
+det3 m =
+    m .x .x ⊗ (m .y .y ⊗ m .z .z ⊖ m .z .y ⊗ m .y .z)
+    ⊖ m .y .x ⊗ (m .x .y ⊗ m .z .z ⊖ m .z .y ⊗ m .x .z)
+    ⊕ m .z .x ⊗ (m .x .y ⊗ m .y .z ⊖ m .y .y ⊗ m .x .z)
+
+-- an entry of det_sub_proc: each term x·(y·z), three added, then three subtracted; the letters are the text's
+unfoldable pub sixTerms : Float → Float → Float → Float → Float → Float → Float → Float → Float → Float
+sixTerms a b c d e f g h i = a ⊗ (b ⊗ c) ⊕ d ⊗ (e ⊗ f) ⊕ g ⊗ (h ⊗ i) ⊖ a ⊗ (e ⊗ i) ⊖ d ⊗ (h ⊗ c) ⊖ g ⊗ (b ⊗ f)
+
+-- det_sub_proc of three rows
+unfoldable pub detSubProc : Vector4 → Vector4 → Vector4 → Vector4
+detSubProc x y z =
+    vector4
+    (sixTerms (x .y) (y .z) (z .w) (x .z) (y .w) (z .y) (x .w) (y .y) (z .z))
+    (sixTerms (x .w) (y .z) (z .x) (x .z) (y .x) (z .w) (x .x) (y .w) (z .z))
+    (sixTerms (x .x) (y .y) (z .w) (x .y) (y .w) (z .x) (x .w) (y .x) (z .y))
+    (sixTerms (x .z) (y .y) (z .x) (x .y) (y .x) (z .z) (x .x) (y .z) (z .y))
+
+-- the vector of det_sub_proc(1, 2, 3) dot row 0
+unfoldable pub det4 : Matrix4 → Float
+det4 m = let rows = transpose4 m in dot4 (detSubProc (rows .y) (rows .z) (rows .w)) (rows .x)
+
+-- ---- inverses
+
+-- refusal 2 where the float determinant compares equal to zero: no tolerance, and a NaN is not equal to zero
+unfoldable pub nonzero : Float → Outcome Unit
+nonzero d = cond (eq d zero) (refusedFor Singular) (given tt)
+
+-- columns (m[1][1]/d, −m[0][1]/d), (−m[1][0]/d, m[0][0]/d)
+abbrev pub inverse2 : Matrix2 → Float → Matrix2
+inverse2 m d = new2 (m .y .y ⊘ d) (neg (m .x .y) ⊘ d) (neg (m .y .x) ⊘ d) (m .x .x ⊘ d)
+
+-- three cross products, each divided by d, as columns, then transposed
+abbrev pub inverse3 : Matrix3 → Float → Matrix3
+inverse3 m d =
+    transpose3
+    (matrix3
+    (divScalar3 (cross3 (m .y) (m .z)) d)
+    (divScalar3 (cross3 (m .z) (m .x)) d)
+    (divScalar3 (cross3 (m .x) (m .y)) d))
+
+-- the matrix without its column i, and each kept column without its element j
+abbrev pub withoutPlace : Matrix4 → ℕ → ℕ → Matrix3
+withoutPlace t i j = ofArray3 (map (without j) (without i (array4 t)))
+
+-- −1 exactly when i+j is odd
+abbrev pub sign : ℕ → ℕ → Float
+sign i j = cond (eqb ((i + j) % 2) 1) (neg one) one
+
+-- the minor, of the transpose, with its sign
+unfoldable pub cofactor : Matrix4 → ℕ → ℕ → Float
+cofactor t i j = det3 (withoutPlace t i j) ⊗ sign i j
+
+-- column i of the inverse, from the transpose and the reciprocal: row j is minor · sign · reciprocal, left to right
+unfoldable pub inverseColumn : Matrix4 → Float → ℕ → Vector4
+inverseColumn t r i = vector4 (cofactor t i 0 ⊗ r) (cofactor t i 1 ⊗ r) (cofactor t i 2 ⊗ r) (cofactor t i 3 ⊗ r)
+
+-- every column, by one reciprocal
+abbrev pub inverse4 : Matrix4 → Float → Matrix4
+inverse4 m d =
+    let column = inverseColumn (transpose4 m) (one ⊘ d) in matrix4 (column 0) (column 1) (column 2) (column 3)
+
+-- refused with 2, or the inverse
+abbrev pub invert2 : Matrix2 → Outcome Matrix2
+invert2 m = after (nonzero (det2 m)) (given (inverse2 m (det2 m)))
+
+abbrev pub invert3 : Matrix3 → Outcome Matrix3
+invert3 m = after (nonzero (det3 m)) (given (inverse3 m (det3 m)))
+
+abbrev pub invert4 : Matrix4 → Outcome Matrix4
+invert4 m = after (nonzero (det4 m)) (given (inverse4 m (det4 m)))
