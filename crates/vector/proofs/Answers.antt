@@ -40,7 +40,7 @@ abbrev pub answerOf : {A B : Type 0} → (A → B) → (Refusal → B) → Outco
 answerOf gives refuses (given a) = gives a
 answerOf gives refuses (refused n) = refuses (cause n)
 
--- an answer of two, three or four numbers is fixed by what it means
+-- two answers that mean the same outcome are the same answer
 pub vector2-one : (a b : Vector2Answer) → vector2Outcome a ≡ vector2Outcome b → a ≡ b
 vector2-one = one-meaning vector2Outcome (answerOf answer2.Given answer2.Refused) there where
   there : (a : Vector2Answer) → answerOf answer2.Given answer2.Refused (vector2Outcome a) ≡ a
