@@ -1,0 +1,14 @@
+-- Every case of the table holds, by computation from the definitions. Assumes nothing.
+use mathlib.Core.Path.{refl}
+use lib.Count.{trailingZeros}
+use lib.Ieee.{add, sub, mul, div, neg, eq, ofInt, ofBits, ofFields, round, sum, size, span, climb, units, odd}
+use Rattle.vector.specs.Refusals.{below}
+use Rattle.matrix.specs.Places.{rowsBelow, columnsBelow}
+use Rattle.matrix.specs.Inverse.{det2, det3, det4, sixTerms, detSubProc, nonzero, cofactor, inverseColumn}
+use Rattle.reference.specs.Cases.{Claims}
+use Rattle.reference.specs.Table.{table}
+
+-- R1 to R11
+pub reference : Claims table
+unfolding add sub mul div neg eq ofInt ofBits ofFields round sum size span climb units odd trailingZeros below rowsBelow columnsBelow det2 det3 det4 sixTerms detSubProc nonzero cofactor inverseColumn
+reference = (refl, (refl, (refl, (refl, (refl, (refl, (refl, (refl, (tt, (tt, (refl, (refl, (refl, (tt, (tt, (refl, (refl, tt)))))))))))))))))

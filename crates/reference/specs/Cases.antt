@@ -1,0 +1,92 @@
+-- What a reference case of document 01 claims: the operation, at the inputs, has the expected outcome.
+-- Matrices and vectors are columns of numbers, as the document writes them in brackets. Assumes nothing.
+use Prim.Native.Nat.{ℕ}
+use mathlib.Core.Path.{_≡_}
+use mathlib.Core.Bool.{Bool, true, false, _&&_}
+use mathlib.Core.List.{List, [], _∷_}
+use lib.Dec.{T, eqb}
+use lib.Ieee.{Float, eq}
+use Rattle.vector.specs.Refusals.{Outcome, given, refused}
+use Rattle.vector.specs.Vectors.{entry, ofEntries3}
+use Rattle.matrix.specs.Records.{column, array2, array3, array4, ofArray2, ofArray3, ofArray4}
+use Rattle.matrix.specs.Places as places
+use Rattle.matrix.specs.Arithmetic.{mul2}
+use Rattle.matrix.specs.Inverse.{det2, det3, det4, invert2, invert3, invert4}
+use Rattle.matrix.specs.Rotations.{fromAxisAngle3}
+
+-- columns of numbers
+abbrev pub Columns : Type 0
+Columns = List (List Float)
+
+-- the operations that the cases call, each at its order
+pub data Operation : Type 0 where
+  determinant2 determinant3 determinant4 : Columns → Operation
+  invert2of invert3of invert4of : Columns → Operation
+  times2 : Columns → Columns → Operation
+  axisAngle3 : List Float → Float → Float → Operation
+  swapRows2 swapColumns2 : Columns → ℕ → ℕ → Operation
+
+-- what is expected: these columns, the sign of a zero included; these columns numerically; or the refusal of this number
+pub data Expected : Type 0 where
+  exactly numerically : Columns → Expected
+  refusal : ℕ → Expected
+
+-- a case: its number in document 01, the operation with its inputs, and the expected outcome
+pub record Case : Type 0 where
+  pub label : ℕ
+  pub operation : Operation
+  pub expected : Expected
+
+-- ---- what an operation answers, by the definitions that the promises of `matrix` cite
+
+-- a number as one column of one number
+abbrev pub number : Float → Columns
+number x = (x ∷ []) ∷ []
+
+-- an outcome's matrix as columns
+abbrev pub columns : {M : Type 0} → (M → Columns) → Outcome M → Outcome Columns
+columns array (given m) = given (array m)
+columns array (refused n) = refused n
+
+abbrev pub answer : Operation → Outcome Columns
+answer (determinant2 m) = given (number (det2 (ofArray2 m)))
+answer (determinant3 m) = given (number (det3 (ofArray3 m)))
+answer (determinant4 m) = given (number (det4 (ofArray4 m)))
+answer (invert2of m) = columns array2 (invert2 (ofArray2 m))
+answer (invert3of m) = columns array3 (invert3 (ofArray3 m))
+answer (invert4of m) = columns array4 (invert4 (ofArray4 m))
+answer (times2 a b) = given (array2 (mul2 (ofArray2 a) (ofArray2 b)))
+answer (axisAngle3 axis s c) = given (array3 (fromAxisAngle3 (ofEntries3 axis) s c))
+answer (swapRows2 m a b) = columns array2 (places.swapRows2 (ofArray2 m) (record { 0 = a }) (record { 0 = b }))
+answer (swapColumns2 m a b) = columns array2 (places.swapColumns2 (ofArray2 m) (record { 0 = a }) (record { 0 = b }))
+
+-- ---- the one claim
+
+-- numerically equal, entry by entry: −0.0 equals 0.0
+abbrev pub equalColumn : List Float → List Float → Bool
+equalColumn [] [] = true
+equalColumn [] (y ∷ v) = false
+equalColumn (x ∷ u) [] = false
+equalColumn (x ∷ u) (y ∷ v) = eq x y && equalColumn u v
+
+abbrev pub equalColumns : Columns → Columns → Bool
+equalColumns [] [] = true
+equalColumns [] (v ∷ b) = false
+equalColumns (u ∷ a) [] = false
+equalColumns (u ∷ a) (v ∷ b) = equalColumn u v && equalColumns a b
+
+-- the outcome is the expected one
+abbrev pub Is : Outcome Columns → Expected → Type 0
+Is outcome (exactly a) = outcome ≡ given a
+Is (given m) (numerically a) = T (equalColumns m a)
+Is (refused n) (numerically a) = ⊥
+Is outcome (refusal n) = outcome ≡ refused n
+
+-- what a case claims
+abbrev pub claim : Case → Type 0
+claim c = Is (answer (c .operation)) (c .expected)
+
+-- what a table claims: each of its cases
+abbrev pub Claims : List Case → Type 0
+Claims [] = Unit
+Claims (c ∷ cs) = claim c × Claims cs
