@@ -13,7 +13,7 @@ from-cols-requires : tie.Need-from-cols-requires
 from-cols-requires c κs = search needs
 
 returns : tie.Need-returns
-returns c = cc
+returns c = rw (c .from-cols .ensures, c .before .before .mul-vector .ensures, c .before .mul-vector2 .ensures)
 
 pub mul-spec : {M : Type 1} → statement M
 mul-spec =

@@ -13,7 +13,7 @@ from-cols-requires : tie.Need-from-cols-requires
 from-cols-requires c κs = search needs
 
 returns : tie.Need-returns
-returns c = cc
+returns c = rw (c .from-cols .ensures, c .before .before .new .ensures, c .before .new2 .ensures)
 
 pub new-spec : {M : Type 1} → statement M
 new-spec = tie.close (tie.spec new-requires new-requires-2 from-cols-requires returns)

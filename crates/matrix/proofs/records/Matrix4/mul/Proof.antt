@@ -19,7 +19,7 @@ from-cols-requires : tie.Need-from-cols-requires
 from-cols-requires c κs = search needs
 
 returns : tie.Need-returns
-returns c = cc
+returns c = rw (c .from-cols .ensures, c .before .before .before .before .combine .ensures, c .before .before .before .combine2 .ensures, c .before .before .combine3 .ensures, c .before .combine4 .ensures)
 
 pub mul-spec : {M : Type 1} → statement M
 mul-spec =

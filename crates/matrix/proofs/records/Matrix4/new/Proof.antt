@@ -19,7 +19,7 @@ from-cols-requires : tie.Need-from-cols-requires
 from-cols-requires c κs = search needs
 
 returns : tie.Need-returns
-returns c = cc
+returns c = rw (c .from-cols .ensures, c .before .before .before .before .new .ensures, c .before .before .before .new2 .ensures, c .before .before .new3 .ensures, c .before .new4 .ensures)
 
 pub new-spec : {M : Type 1} → statement M
 new-spec =

@@ -1,0 +1,22 @@
+// Runs one call of every public function of `vector` and `matrix`, and document 01's case that is run only.
+// Expected values come from document 01 or are worked out by hand, on numbers where every step is exact.
+mod arithmetic;
+mod count;
+mod inverse;
+mod places;
+mod records;
+mod rotations;
+mod same;
+mod vectors;
+
+use count::Count;
+
+fn main() {
+    let c = vectors::run(Count::new());
+    let c = records::run(c);
+    let c = places::run(c);
+    let c = arithmetic::run(c);
+    let c = inverse::run(c);
+    let c = rotations::run(c);
+    c.print();
+}
