@@ -17,15 +17,21 @@ use vector::Vector4;
 pub(crate) fn run(count: Count) -> Count {
     let c = count;
     let c = sums_of_two(c);
+    let c = left_forms_of_two(c);
     let c = products_of_two(c);
+    let c = right_forms_of_two(c);
     let c = sums_of_three(c);
+    let c = left_forms_of_three(c);
     let c = products_of_three(c);
+    let c = right_forms_of_three(c);
     let c = sums_of_four(c);
+    let c = left_forms_of_four(c);
     let c = products_of_four(c);
+    let c = right_forms_of_four(c);
     c
 }
 
-// Sums and scalar forms of order 2.
+// Sums of order 2.
 fn sums_of_two(count: Count) -> Count {
     let c = count;
     let c = c.case(
@@ -48,6 +54,12 @@ fn sums_of_two(count: Count) -> Count {
             Matrix2::from_array([[-4.0, -4.0], [-4.0, -4.0]]),
         ),
     );
+    c
+}
+
+// The scalar on the left, order 2.
+fn left_forms_of_two(count: Count) -> Count {
+    let c = count;
     let c = c.case(
         b"Matrix2::scalar_mul",
         same_matrix2(
@@ -65,7 +77,7 @@ fn sums_of_two(count: Count) -> Count {
     c
 }
 
-// Products and the scalar on the right, order 2.
+// Products of order 2.
 fn products_of_two(count: Count) -> Count {
     let c = count;
     let c = c.case(
@@ -85,6 +97,12 @@ fn products_of_two(count: Count) -> Count {
             Matrix2::from_array([[23.0, 34.0], [31.0, 46.0]]),
         ),
     );
+    c
+}
+
+// Negation and the scalar on the right, order 2.
+fn right_forms_of_two(count: Count) -> Count {
+    let c = count;
     let c = c.case(
         b"Matrix2::neg",
         same_matrix2(
@@ -109,7 +127,7 @@ fn products_of_two(count: Count) -> Count {
     c
 }
 
-// Sums and scalar forms of order 3.
+// Sums of order 3.
 fn sums_of_three(count: Count) -> Count {
     let c = count;
     let c = c.case(
@@ -134,6 +152,12 @@ fn sums_of_three(count: Count) -> Count {
             Matrix3::from_array([[-1.0, 2.0, 2.0], [3.0, 2.0, 6.0], [7.0, 7.0, 5.0]]),
         ),
     );
+    c
+}
+
+// The scalar on the left, order 3.
+fn left_forms_of_three(count: Count) -> Count {
+    let c = count;
     let c = c.case(
         b"Matrix3::scalar_mul",
         same_matrix3(
@@ -155,7 +179,7 @@ fn sums_of_three(count: Count) -> Count {
     c
 }
 
-// Products and the scalar on the right, order 3.
+// Products of order 3.
 fn products_of_three(count: Count) -> Count {
     let c = count;
     let c = c.case(
@@ -180,6 +204,12 @@ fn products_of_three(count: Count) -> Count {
             Matrix3::from_array([[9.0, 12.0, 15.0], [13.0, 17.0, 21.0], [32.0, 37.0, 42.0]]),
         ),
     );
+    c
+}
+
+// Negation and the scalar on the right, order 3.
+fn right_forms_of_three(count: Count) -> Count {
+    let c = count;
     let c = c.case(
         b"Matrix3::neg",
         same_matrix3(
@@ -212,7 +242,7 @@ fn products_of_three(count: Count) -> Count {
     c
 }
 
-// Sums and scalar forms of order 4.
+// Sums of order 4.
 fn sums_of_four(count: Count) -> Count {
     let c = count;
     let c = c.case(
@@ -259,6 +289,12 @@ fn sums_of_four(count: Count) -> Count {
             ]),
         ),
     );
+    c
+}
+
+// The scalar on the left, order 4.
+fn left_forms_of_four(count: Count) -> Count {
+    let c = count;
     let c = c.case(
         b"Matrix4::scalar_mul",
         same_matrix4(
@@ -296,7 +332,7 @@ fn sums_of_four(count: Count) -> Count {
     c
 }
 
-// Products and the scalar on the right, order 4.
+// Products of order 4.
 fn products_of_four(count: Count) -> Count {
     let c = count;
     let c = c.case(
@@ -333,6 +369,12 @@ fn products_of_four(count: Count) -> Count {
             ]),
         ),
     );
+    c
+}
+
+// Negation and the scalar on the right, order 4.
+fn right_forms_of_four(count: Count) -> Count {
+    let c = count;
     let c = c.case(
         b"Matrix4::neg",
         same_matrix4(

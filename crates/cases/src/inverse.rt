@@ -13,14 +13,16 @@ use matrix::Matrix4;
 // Every case of this file.
 pub(crate) fn run(count: Count) -> Count {
     let c = count;
-    let c = of_two(c);
+    let c = regular_of_two(c);
+    let c = singular_of_two(c);
+    let c = edges_of_two(c);
     let c = of_three(c);
     let c = of_four(c);
     c
 }
 
-// R1 to R5, and the diagonal of 1e-200, whose determinant underflows.
-fn of_two(count: Count) -> Count {
+// R1 and R2.
+fn regular_of_two(count: Count) -> Count {
     let c = count;
     let c = c.case(
         b"Matrix2::determinant R1",
@@ -43,6 +45,12 @@ fn of_two(count: Count) -> Count {
             Matrix2::from_array([[0.5, -0.0], [-0.0, 0.25]]),
         ),
     );
+    c
+}
+
+// R3 and R4.
+fn singular_of_two(count: Count) -> Count {
+    let c = count;
     let c = c.case(
         b"Matrix2::invert R3",
         refuses_matrix2(Matrix2::from_array([[1.0, 2.0], [2.0, 4.0]]).invert(), 2),
@@ -58,6 +66,12 @@ fn of_two(count: Count) -> Count {
         b"Matrix2::invert R4",
         refuses_matrix2(Matrix2::from_array([[-1.0, 0.0], [0.0, 0.0]]).invert(), 2),
     );
+    c
+}
+
+// R5, and the diagonal of 1e-200, whose determinant underflows.
+fn edges_of_two(count: Count) -> Count {
+    let c = count;
     let c = c.case(
         b"Matrix2::invert R5",
         gives_matrix2(

@@ -31,11 +31,17 @@ use vector::Vector4;
 pub(crate) fn run(count: Count) -> Count {
     let c = count;
     let c = rows_of_two(c);
-    let c = swaps_of_two(c);
+    let c = row_swaps_of_two(c);
+    let c = column_swaps_of_two(c);
+    let c = element_swaps_of_two(c);
     let c = rows_of_three(c);
-    let c = swaps_of_three(c);
+    let c = row_swaps_of_three(c);
+    let c = column_swaps_of_three(c);
+    let c = element_swaps_of_three(c);
     let c = rows_of_four(c);
-    let c = swaps_of_four(c);
+    let c = row_swaps_of_four(c);
+    let c = column_swaps_of_four(c);
+    let c = element_swaps_of_four(c);
     c
 }
 
@@ -70,8 +76,8 @@ fn rows_of_two(count: Count) -> Count {
     c
 }
 
-// The swaps of order 2.
-fn swaps_of_two(count: Count) -> Count {
+// Rows exchanged, order 2.
+fn row_swaps_of_two(count: Count) -> Count {
     let c = count;
     let c = c.case(
         b"Matrix2::swap_rows",
@@ -94,6 +100,12 @@ fn swaps_of_two(count: Count) -> Count {
             1,
         ),
     );
+    c
+}
+
+// Columns exchanged, order 2.
+fn column_swaps_of_two(count: Count) -> Count {
+    let c = count;
     let c = c.case(
         b"Matrix2::swap_columns",
         gives_matrix2(
@@ -108,6 +120,12 @@ fn swaps_of_two(count: Count) -> Count {
             1,
         ),
     );
+    c
+}
+
+// Entries exchanged, order 2.
+fn element_swaps_of_two(count: Count) -> Count {
+    let c = count;
     let c = c.case(
         b"Matrix2::swap_elements",
         gives_matrix2(
@@ -169,8 +187,8 @@ fn rows_of_three(count: Count) -> Count {
     c
 }
 
-// The swaps of order 3.
-fn swaps_of_three(count: Count) -> Count {
+// Rows exchanged, order 3.
+fn row_swaps_of_three(count: Count) -> Count {
     let c = count;
     let c = c.case(
         b"Matrix3::swap_rows",
@@ -202,6 +220,12 @@ fn swaps_of_three(count: Count) -> Count {
             1,
         ),
     );
+    c
+}
+
+// Columns exchanged, order 3.
+fn column_swaps_of_three(count: Count) -> Count {
+    let c = count;
     let c = c.case(
         b"Matrix3::swap_columns",
         gives_matrix3(
@@ -222,6 +246,12 @@ fn swaps_of_three(count: Count) -> Count {
             1,
         ),
     );
+    c
+}
+
+// Entries exchanged, order 3.
+fn element_swaps_of_three(count: Count) -> Count {
+    let c = count;
     let c = c.case(
         b"Matrix3::swap_elements",
         gives_matrix3(
@@ -308,8 +338,8 @@ fn rows_of_four(count: Count) -> Count {
     c
 }
 
-// The swaps of order 4.
-fn swaps_of_four(count: Count) -> Count {
+// Rows exchanged, order 4.
+fn row_swaps_of_four(count: Count) -> Count {
     let c = count;
     let c = c.case(
         b"Matrix4::swap_rows",
@@ -357,6 +387,12 @@ fn swaps_of_four(count: Count) -> Count {
             1,
         ),
     );
+    c
+}
+
+// Columns exchanged, order 4.
+fn column_swaps_of_four(count: Count) -> Count {
+    let c = count;
     let c = c.case(
         b"Matrix4::swap_columns",
         gives_matrix4(
@@ -386,6 +422,12 @@ fn swaps_of_four(count: Count) -> Count {
             1,
         ),
     );
+    c
+}
+
+// Entries exchanged, order 4.
+fn element_swaps_of_four(count: Count) -> Count {
+    let c = count;
     let c = c.case(
         b"Matrix4::swap_elements",
         gives_matrix4(

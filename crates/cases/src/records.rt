@@ -13,17 +13,22 @@ use vector::Vector4;
 // Every case of this file.
 pub(crate) fn run(count: Count) -> Count {
     let c = count;
+    let c = constants_of_two(c);
     let c = records_of_two(c);
-    let c = builders_of_two(c);
+    let c = diagonals_of_two(c);
+    let c = constants_of_three(c);
     let c = records_of_three(c);
-    let c = builders_of_three(c);
+    let c = diagonals_of_three(c);
+    let c = affine_of_three(c);
+    let c = constants_of_four(c);
     let c = records_of_four(c);
-    let c = builders_of_four(c);
+    let c = diagonals_of_four(c);
+    let c = affine_of_four(c);
     c
 }
 
-// The record of order 2, its constants and its arrays.
-fn records_of_two(count: Count) -> Count {
+// The constants of order 2.
+fn constants_of_two(count: Count) -> Count {
     let c = count;
     let c = c.case(b"Matrix2::order", Matrix2::order() == 2);
     let c = c.case(
@@ -40,6 +45,12 @@ fn records_of_two(count: Count) -> Count {
             Matrix2::from_array([[1.0, 0.0], [0.0, 1.0]]),
         ),
     );
+    c
+}
+
+// The record of order 2 and its array.
+fn records_of_two(count: Count) -> Count {
+    let c = count;
     let c = c.case(
         b"Matrix2::new",
         same_matrix2(
@@ -68,8 +79,8 @@ fn records_of_two(count: Count) -> Count {
     c
 }
 
-// The builders of order 2.
-fn builders_of_two(count: Count) -> Count {
+// The diagonal builders of order 2.
+fn diagonals_of_two(count: Count) -> Count {
     let c = count;
     let c = c.case(
         b"Matrix2::from_value",
@@ -95,8 +106,8 @@ fn builders_of_two(count: Count) -> Count {
     c
 }
 
-// The record of order 3, its constants and its arrays.
-fn records_of_three(count: Count) -> Count {
+// The constants of order 3.
+fn constants_of_three(count: Count) -> Count {
     let c = count;
     let c = c.case(b"Matrix3::order", Matrix3::order() == 3);
     let c = c.case(
@@ -113,6 +124,12 @@ fn records_of_three(count: Count) -> Count {
             Matrix3::from_array([[1.0, 0.0, 0.0], [0.0, 1.0, 0.0], [0.0, 0.0, 1.0]]),
         ),
     );
+    c
+}
+
+// The record of order 3 and its array.
+fn records_of_three(count: Count) -> Count {
+    let c = count;
     let c = c.case(
         b"Matrix3::new",
         same_matrix3(
@@ -154,8 +171,8 @@ fn records_of_three(count: Count) -> Count {
     c
 }
 
-// The builders of order 3.
-fn builders_of_three(count: Count) -> Count {
+// The diagonal builders of order 3.
+fn diagonals_of_three(count: Count) -> Count {
     let c = count;
     let c = c.case(
         b"Matrix3::from_value",
@@ -178,6 +195,12 @@ fn builders_of_three(count: Count) -> Count {
             Matrix3::from_array([[5.0, 0.0, 0.0], [0.0, 5.0, 0.0], [0.0, 0.0, 1.0]]),
         ),
     );
+    c
+}
+
+// The affine and scale builders of order 3, and the embeddings.
+fn affine_of_three(count: Count) -> Count {
+    let c = count;
     let c = c.case(
         b"Matrix3::from_nonuniform_scale",
         same_matrix3(
@@ -202,8 +225,8 @@ fn builders_of_three(count: Count) -> Count {
     c
 }
 
-// The record of order 4, its constants and its arrays.
-fn records_of_four(count: Count) -> Count {
+// The constants of order 4.
+fn constants_of_four(count: Count) -> Count {
     let c = count;
     let c = c.case(b"Matrix4::order", Matrix4::order() == 4);
     let c = c.case(
@@ -230,6 +253,12 @@ fn records_of_four(count: Count) -> Count {
             ]),
         ),
     );
+    c
+}
+
+// The record of order 4 and its array.
+fn records_of_four(count: Count) -> Count {
+    let c = count;
     let c = c.case(
         b"Matrix4::new",
         same_matrix4(
@@ -310,8 +339,8 @@ fn records_of_four(count: Count) -> Count {
     c
 }
 
-// The builders of order 4.
-fn builders_of_four(count: Count) -> Count {
+// The diagonal builders of order 4.
+fn diagonals_of_four(count: Count) -> Count {
     let c = count;
     let c = c.case(
         b"Matrix4::from_value",
@@ -349,6 +378,12 @@ fn builders_of_four(count: Count) -> Count {
             ]),
         ),
     );
+    c
+}
+
+// The affine and scale builders of order 4, and the embeddings.
+fn affine_of_four(count: Count) -> Count {
+    let c = count;
     let c = c.case(
         b"Matrix4::from_nonuniform_scale",
         same_matrix4(

@@ -12,11 +12,12 @@ use vector::Vector3;
 pub(crate) fn run(count: Count) -> Count {
     let c = count;
     let c = of_two_and_three(c);
+    let c = around_an_axis(c);
     let c = of_four(c);
     c
 }
 
-// Orders 2 and 3, R9 among them. The sine and the cosine are not checked against each other.
+// Orders 2 and 3. The sine and the cosine are not checked against each other.
 fn of_two_and_three(count: Count) -> Count {
     let c = count;
     let c = c.case(
@@ -47,6 +48,12 @@ fn of_two_and_three(count: Count) -> Count {
             Matrix3::from_array([[4.0, 3.0, 0.0], [-3.0, 4.0, 0.0], [0.0, 0.0, 1.0]]),
         ),
     );
+    c
+}
+
+// Around an axis at order 3, R9 among them.
+fn around_an_axis(count: Count) -> Count {
+    let c = count;
     let c = c.case(
         b"Matrix3::from_axis_angle",
         same_matrix3(

@@ -13,15 +13,18 @@ use vector::Vector4;
 // Every case of this file.
 pub(crate) fn run(count: Count) -> Count {
     let c = count;
-    let c = of_two(c);
-    let c = of_three(c);
-    let c = of_four(c);
+    let c = sums_of_two(c);
+    let c = products_of_two(c);
+    let c = sums_of_three(c);
+    let c = products_of_three(c);
+    let c = sums_of_four(c);
+    let c = products_of_four(c);
     let c = refusals(c);
     c
 }
 
-// Vectors of two.
-fn of_two(count: Count) -> Count {
+// Vectors of two: made, added and scaled.
+fn sums_of_two(count: Count) -> Count {
     let c = count;
     let c = c.case(b"Vector2::new", bits::same(Vector2::new(1.0, 2.0).y, 2.0));
     let c = c.case(
@@ -45,6 +48,12 @@ fn of_two(count: Count) -> Count {
             Vector2::new(-2.0, -4.0),
         ),
     );
+    c
+}
+
+// Vectors of two: dot.
+fn products_of_two(count: Count) -> Count {
+    let c = count;
     let c = c.case(
         b"Vector2::dot",
         bits::same(Vector2::new(1.0, 2.0).dot(Vector2::new(10.0, 20.0)), 50.0),
@@ -52,8 +61,8 @@ fn of_two(count: Count) -> Count {
     c
 }
 
-// Vectors of three.
-fn of_three(count: Count) -> Count {
+// Vectors of three: made, added and scaled.
+fn sums_of_three(count: Count) -> Count {
     let c = count;
     let c = c.case(
         b"Vector3::new",
@@ -80,6 +89,12 @@ fn of_three(count: Count) -> Count {
             Vector3::new(-2.0, -4.0, -6.0),
         ),
     );
+    c
+}
+
+// Vectors of three: dot, and what only three entries have.
+fn products_of_three(count: Count) -> Count {
+    let c = count;
     let c = c.case(
         b"Vector3::dot",
         bits::same(
@@ -104,8 +119,8 @@ fn of_three(count: Count) -> Count {
     c
 }
 
-// Vectors of four.
-fn of_four(count: Count) -> Count {
+// Vectors of four: made, added and scaled.
+fn sums_of_four(count: Count) -> Count {
     let c = count;
     let c = c.case(
         b"Vector4::new",
@@ -132,6 +147,12 @@ fn of_four(count: Count) -> Count {
             Vector4::new(-2.0, -4.0, -6.0, -8.0),
         ),
     );
+    c
+}
+
+// Vectors of four: dot, and what only four entries have.
+fn products_of_four(count: Count) -> Count {
+    let c = count;
     let c = c.case(
         b"Vector4::dot",
         bits::same(

@@ -1,0 +1,163 @@
+#!/usr/bin/env python3
+"""Tries wrong programs against the promises: each must be refused, because a need of that very function fails.
+
+Usage: tools/wrong_programs.py [CRATE ..]
+
+A wrong program is a replacement in the body of one public function (or of the private helper that does its work).
+The k-th wrong program of every function is tried at once, in a copy of the repository, since each function is
+proved by itself. A line is printed for each; the exit status is 1 where one was not refused.
+"""
+import os
+import re
+import shutil
+import subprocess
+import sys
+import tempfile
+
+# function: [(what is wrong, old text, new text), ..]; `{n}` stands for each order or length named in the pattern
+WRONG = {
+    "vector": {
+        "lib.rt Vector{234}::new": [("two entries exchanged", "{ x, y", "{ x: y, y: x"), ("an entry fixed at 0", "{ x,", "{ x: 0.0,")],
+        "lib.rt Vector{234}::add": [("one entry subtracted", "self.x + other.x", "self.x - other.x"), ("one entry of the left side alone", "self.y + other.y", "self.y")],
+        "lib.rt Vector{234}::sub": [("one entry the other way round", "self.x - other.x", "other.x - self.x"), ("one entry added", "self.y - other.y", "self.y + other.y")],
+        "lib.rt Vector{234}::scalar_mul": [("one entry left as it is", "scalar * self.x", "self.x"), ("one entry written twice", "scalar * self.y", "scalar * self.x")],
+        "lib.rt Vector{2}::dot": [("the difference", " + ", " - "), ("a cross term", "self.y * other.y", "self.y * other.x")],
+        "lib.rt Vector{3}::dot": [("summed from the left", "+ (self.y * other.y + self.z * other.z)", "+ self.y * other.y + self.z * other.z"), ("one term twice", "self.z * other.z", "self.y * other.y")],
+        "lib.rt Vector{4}::dot": [("summed from the left", "+ (self.y * other.y + (self.z * other.z + self.w * other.w))", "+ self.y * other.y + self.z * other.z + self.w * other.w"), ("one term twice", "self.w * other.w", "self.z * other.z")],
+        "lib.rt Vector{3}::div_scalar": [("the scalar multiplied", "self.x / scalar", "self.x * scalar"), ("by the reciprocal, which rounds twice", "self.y / scalar", "self.y * (1.0 / scalar)")],
+        "lib.rt Vector{3}::cross": [("one sign turned", "self.y * other.z - self.z", "self.y * other.z + self.z"), ("one entry the other way round", "self.z * other.x - self.x * other.z", "self.x * other.z - self.z * other.x")],
+        "lib.rt Vector{4}::truncate_n": [("two kept entries exchanged", "self.x, self.z, self.w", "self.x, self.w, self.z"), ("another refusal", "Refusal::OutOfRange", "Refusal::Singular")],
+        "refusal.rt Refusal::number": [("two causes with one number", "=> 1,", "=> 2,"), ("a number that the table lacks", "=> 6,", "=> 7,")],
+    },
+    "matrix": {
+        "records.rt Matrix{234}::order": [("one more", "ORDER", "ORDER + 1"), ("another number", "Matrix{n}::ORDER", "5")],
+        "records.rt Matrix{234}::zero": [("the identity", "ZERO", "IDENTITY"), ("nearly zero", "Matrix{n}::ZERO", "Matrix{n}::from_value(1.0e-300)")],
+        "records.rt Matrix{234}::identity": [("zero", "IDENTITY", "ZERO"), ("its negative", "Matrix{n}::IDENTITY", "Matrix{n}::from_value(-1.0)")],
+        "records.rt Matrix{234}::new": [("two entries exchanged", "Vector{n}::new(c0r0, c0r1", "Vector{n}::new(c0r1, c0r0"), ("an entry of another column", "c1r0", "c0r0")],
+        "records.rt Matrix{234}::from_cols": [("the second column first", "x: c0", "x: c1"), ("the first column twice", "y: c1", "y: c0")],
+        "records.rt Matrix{2}::from_scale": [("no scale", "from_value(value)", "from_value(1.0)"), ("twice the scale", "from_value(value)", "from_value(value + value)")],
+        "records.rt Matrix{34}::from_scale": [("the last entry scaled too", "from_nonuniform_scale(value, value{v})", "from_value(value)"), ("one coordinate not scaled", "(value, value", "(value, 1.0")],
+        "records.rt Matrix{34}::from_nonuniform_scale": [("one scale twice", "[x,", "[y,"), ("the last entry scaled too", " 1.0]", " x]")],
+        "records.rt Matrix{34}::from_translation": [("two offsets exchanged", "[v.x, v.y", "[v.y, v.x"), ("the offset in the last row", "[1.0, 0.0", "[1.0, v.x")],
+        "records.rt Matrix{234}::into_array": [("two places exchanged", "self.x.y", "self.y.x"), ("an entry fixed at 0", "[self.x.x", "[0.0")],
+        "records.rt Matrix{234}::from_array": [("[c][r] read as [r][c]", "m[0][1]", "m[1][0]"), ("an entry written twice", "m[0][0]", "m[1][1]")],
+        "records.rt Matrix{234}::from_value": [("one entry 1", "[value", "[1.0"), ("an entry beside the diagonal", "0.0", "value")],
+        "records.rt Matrix{234}::from_diagonal": [("one entry twice", "value.x", "value.y"), ("an entry beside the diagonal", "0.0", "value.x")],
+        "records.rt Matrix{34}::from_matrix2": [("transposed", "m.x.y", "m.y.x"), ("0 for a 1", "1.0", "0.0")],
+        "records.rt Matrix{4}::from_matrix3": [("transposed", "m.x.y", "m.y.x"), ("0 for the 1", "1.0", "0.0")],
+        "places.rt row_of{234}": [("[c][r] read as [r][c]", "m[0][r]", "m[r][0]"), ("the diagonal's entry", "m[1][r]", "m[1][1]")],
+        "places.rt Matrix{234}::row": [("the range test lets the order pass", "Matrix{n}::ORDER", "Matrix{n}::ORDER + 1"), ("always row 0", "r.0)", "0)")],
+        "places.rt Matrix{234}::diagonal": [("an entry beside it", "self.x.x", "self.x.y"), ("two entries exchanged", "self.y.y", "self.x.x")],
+        "places.rt Matrix{234}::transpose": [("one entry not moved", "self.y.x", "self.x.y"), ("an entry of the diagonal twice", "self.x.x", "self.y.y")],
+        "places.rt Matrix{234}::swap_rows": [("the second number not tested", "ORDER, a, b", "ORDER, a, a"), ("nothing exchanged", "(a.0, b.0)", "(a.0, a.0)")],
+        "places.rt Matrix{234}::swap_columns": [("the second number not tested", "ORDER, a, b", "ORDER, a, a"), ("nothing exchanged", "a.0, b.0)", "a.0, a.0)")],
+        "places.rt Matrix{234}::swap_elements": [("the second place not tested", "ac, ar, bc, br)", "ac, ar, ac, ar)"), ("a place read row first", "ac.0, ar.0,", "ar.0, ac.0,")],
+        "arithmetic.rt Matrix{234}::add": [("one entry subtracted", "self.x.x + other.x.x", "self.x.x - other.x.x"), ("one entry of the left side alone", "self.x.y + other.x.y", "self.x.y")],
+        "arithmetic.rt Matrix{234}::sub": [("one entry the other way round", "self.x.x - other.x.x", "other.x.x - self.x.x"), ("one entry added", "self.x.y - other.x.y", "self.x.y + other.x.y")],
+        "arithmetic.rt Matrix{234}::scalar_mul": [("one entry left as it is", "scalar * self.x.x", "self.x.x"), ("two entries exchanged", "scalar * self.x.y", "scalar * self.y.x")],
+        "arithmetic.rt Matrix{234}::scalar_div": [("one entry the other way round", "scalar / self.x.x", "self.x.x / scalar"), ("one entry multiplied", "scalar / self.x.y", "scalar * self.x.y")],
+        "arithmetic.rt Matrix{234}::mul_vector": [("one row for another", "rows.x.dot", "rows.y.dot"), ("a row twice", "rows.y.dot", "rows.x.dot")],
+        "arithmetic.rt Matrix{23}::mul": [("the other way round", "self.mul_vector(other.x)", "other.mul_vector(self.x)"), ("a column twice", "self.mul_vector(other.y)", "self.mul_vector(other.x)")],
+        "arithmetic.rt Matrix{4}::mul": [("the other way round", "self.combine(other.x)", "other.combine(self.x)"), ("a column twice", "self.combine(other.y)", "self.combine(other.x)")],
+        "arithmetic.rt Matrix{4}::combine": [("summed from the right", "self.x.x * v.x + self.y.x * v.y + self.z.x * v.z + self.w.x * v.w", "self.x.x * v.x + (self.y.x * v.y + (self.z.x * v.z + self.w.x * v.w))"), ("[c][r] read as [r][c]", "self.y.x * v.y", "self.x.y * v.y")],
+        "arithmetic.rt Matrix{234}::neg": [("one sign not turned", "-self.x.x", "self.x.x"), ("0 less the entry: 0.0 stays 0.0", "-self.x.y", "0.0 - self.x.y")],
+        "arithmetic.rt Matrix{234}::mul_scalar": [("one entry left as it is", "self.x.x * scalar", "self.x.x"), ("one entry divided", "self.x.y * scalar", "self.x.y / scalar")],
+        "arithmetic.rt Matrix{234}::div_scalar": [("by the reciprocal, which rounds twice", "self.x.x / scalar", "self.x.x * (1.0 / scalar)"), ("one entry the other way round", "self.x.y / scalar", "scalar / self.x.y")],
+        "inverse.rt Matrix{2}::determinant": [("fixed at 1", "self.x.x * self.y.y - self.y.x * self.x.y", "1.0"), ("the permanent", " - ", " + ")],
+        "inverse.rt Matrix{3}::determinant": [("one sign turned", "- self.y.x *", "+ self.y.x *"), ("one factor for another", "self.z.y * self.y.z", "self.z.y * self.z.y")],
+        "inverse.rt Matrix{4}::determinant": [("two rows exchanged", "rows.y, rows.z,", "rows.z, rows.y,"), ("by another row", ".dot(rows.x)", ".dot(rows.y)")],
+        "inverse.rt Matrix{2}::invert": [("a tolerance", "det == 0.0", "det * det < 1.0e-18"), ("a sign lost", "-self.x.y / det", "self.x.y / det")],
+        "inverse.rt Matrix{3}::invert": [("refuses everything but NaN", "det == 0.0", "det == det"), ("a cross product the other way round", "self.y.cross(self.z)", "self.z.cross(self.y)")],
+        "inverse.rt Matrix{4}::invert": [("transposed", "inverse_column(t, inv_det, 0)", "inverse_column(self, inv_det, 0)"), ("the determinant for its reciprocal", "1.0 / det", "det")],
+        "rotations.rt Matrix{2}::from_angle": [("sine and cosine exchanged", "(c, s, -s, c)", "(s, c, -c, s)"), ("the other way round", "(c, s, -s, c)", "(c, -s, s, c)")],
+        "rotations.rt Matrix{3}::from_angle_x": [("a sign lost", "-s", "s"), ("0 on the axis", "[1.0", "[0.0")],
+        "rotations.rt Matrix{3}::from_angle_y": [("a sign lost", "-s", "s"), ("0 on the axis", "1.0", "0.0")],
+        "rotations.rt Matrix{3}::from_angle_z": [("a sign lost", "-s", "s"), ("0 on the axis", "1.0", "0.0")],
+        "rotations.rt Matrix{3}::from_axis_angle": [("a sign turned", "+ s * axis.z", "- s * axis.z"), ("the cosine for one less it", "1.0 - c", "c")],
+        "rotations.rt Matrix{4}::from_angle_x": [("around another axis", "from_angle_x", "from_angle_y"), ("sine and cosine exchanged", "(s, c)", "(c, s)")],
+        "rotations.rt Matrix{4}::from_angle_y": [("around another axis", "from_angle_y", "from_angle_z"), ("sine and cosine exchanged", "(s, c)", "(c, s)")],
+        "rotations.rt Matrix{4}::from_angle_z": [("around another axis", "from_angle_z", "from_angle_x"), ("sine and cosine exchanged", "(s, c)", "(c, s)")],
+        "rotations.rt Matrix{4}::from_axis_angle": [("sine and cosine exchanged", "s, c)", "c, s)"), ("around an axis of its own", "(axis,", "(Vector3::new(0.0, 0.0, 1.0),")],
+    },
+}
+
+
+def places():
+    """Each (crate, file, record or None, function, k, what, old, new)."""
+    for crate, functions in WRONG.items():
+        for where, wrongs in functions.items():
+            file, name = where.split(" ")
+            orders = re.search(r"\{(\d+)\}", name)
+            for n in orders.group(1) if orders else " ":
+                full = re.sub(r"\{\d+\}", n, name)
+                record, _, function = full.rpartition("::")
+                for k, (what, old, new) in enumerate(wrongs):
+                    fill = lambda t: t.replace("{n}", n).replace("{v}", ", value" if n == "4" else "")
+                    yield crate, file, record or None, function, k, what, fill(old), fill(new)
+
+
+def body_of(text, record, function):
+    """Where the body of a function stands: in an impl of its record that has it, or at the top of the file."""
+    if record is None:
+        m = re.search(r"^(?:pub(?:\(crate\))? )?fn %s\(" % function, text, re.M)
+        start = m.end()
+        stop = text.index("\n}\n", start)
+    else:
+        impl = text.index("impl %s {" % record)
+        m = re.compile(r"^    (?:pub )?fn %s\(" % function, re.M).search(text, impl)
+        start = m.end()
+        stop = text.index("\n    }\n", start)
+    return text.index("{\n", text.index("⌝ }\n", start)), stop + 6
+
+
+def try_all(crate, k, rows):
+    """Puts the k-th wrong programs into a copy, checks it, and answers the rows that were not refused."""
+    top = tempfile.mkdtemp()
+    for name in ["crates.txt", "crates", "target"]:
+        if os.path.isdir(name):
+            shutil.copytree(name, os.path.join(top, name), symlinks=True)
+        else:
+            shutil.copy(name, top)
+    for _, file, record, function, _, what, old, new in rows:
+        path = os.path.join(top, "crates", crate, "src", file)
+        text = open(path, encoding="utf-8").read()
+        start, stop = body_of(text, record, function)
+        body = text[start:stop]
+        if old not in body:
+            sys.exit(f"{crate} {record}::{function}: no '{old}' in its body")
+        open(path, "w", encoding="utf-8").write(text[:start] + body.replace(old, new, 1) + text[stop:])
+    run = subprocess.run(["rt", "dev", crate], cwd=top, capture_output=True, text=True, env={**os.environ, "RT_CUT": "0"})
+    log = run.stdout + run.stderr
+    shutil.rmtree(top)
+    if "logic=not-proved" not in log:
+        print(log[-2000:])
+        sys.exit(f"{crate}: the copy with wrong programs {k + 1} did not reach the prover")
+    bad = []
+    for _, file, record, function, _, what, old, new in rows:
+        name = f"{record}::{function}" if record else function
+        line = next((l for l in log.split("\n") if re.match(r"fn %s::(\w+::)*%s: " % (crate, re.escape(name)), l)), "")
+        folder = f"/{record}/{function}/Proof.antt" if record else f"/{function}/Proof.antt"
+        own = "`search` does not close" in line or any(
+            folder in l and ": error: " in l and "was not admitted" not in l for l in log.split("\n"))
+        print(f"{'refused' if own else 'NOT REFUSED'}: {crate} {name}: {what}", flush=True)
+        if not own:
+            bad.append((name, what, line[:200]))
+    return bad
+
+
+def main():
+    wanted = sys.argv[1:] or list(WRONG)
+    rows, bad, tried = list(places()), [], 0
+    for crate in wanted:
+        subprocess.run(["rt", "check", crate], capture_output=True)
+        for k in range(2):
+            these = [r for r in rows if r[0] == crate and r[4] == k]
+            tried += len(these)
+            bad += try_all(crate, k, these)
+    for name, what, line in bad:
+        print(f"not refused by its own needs: {name}: {what}: {line}")
+    print(f"{tried} wrong programs tried, {tried - len(bad)} refused")
+    sys.exit(1 if bad else 0)
+
+
+main()
