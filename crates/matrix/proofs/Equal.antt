@@ -6,7 +6,7 @@ use Prim.Native.Nat.{ℕ, zero, suc, _<_}
 use native.Mathlib.Omega.{arith}
 use lib.Ieee.{Float, nan}
 use lib.ListN.{length, getD, set}
-use Rattle.vector.specs.Refusals.{Outcome, given, refused, after, below}
+use Rattle.vector.specs.Refusals.{Outcome, given, refused, after}
 use Rattle.vector.specs.Vectors.{entry}
 use Rattle.vector.proofs.Checks.{passes}
 use Rattle.matrix.specs.declared.places.Column.{Column}

@@ -1,13 +1,14 @@
--- Document 01, module 5: determinants and inverses, term by term as the document writes them.
+-- Document 01, module 5: determinants and inverses, term by term as the document and the text write them.
 -- Orders 2 and 3 divide by the determinant, order 4 multiplies by one reciprocal. Assumes nothing.
 use Prim.Native.Nat.{ℕ, _+_, _%_}
 use mathlib.Core.Bool.{cond}
 use mathlib.Core.List.{map}
 use lib.Dec.{eqb}
 use lib.Ieee.{Float, neg, eq}
-use Rattle.vector.specs.Arithmetic.{_⊕_, _⊖_, _⊗_, _⊘_, zero, one}
+use Rattle.vector.specs.Arithmetic.{_⊕_, _⊖_, _⊗_, _⊘_, float0, float1}
 use Rattle.vector.specs.Refusals.{Outcome, given, refusedFor, after}
-use Rattle.vector.specs.Vectors.{vector4, dot4, cross3, divScalar3, without}
+use Rattle.vector.specs.Vectors.{vector4, dot4, cross3, without}
+use Rattle.vector.specs.Vectors as vectors
 use Rattle.vector.specs.declared.refusal.Refusal.the-variants.{Singular}
 use Rattle.vector.specs.declared.Vector4.{Vector4}
 use Rattle.matrix.specs.Records.{matrix3, matrix4, new2, array4, ofArray3}
@@ -22,7 +23,7 @@ use Rattle.matrix.specs.declared.records.Matrix4.{Matrix4}
 unfoldable pub det2 : Matrix2 → Float
 det2 m = m .x .x ⊗ m .y .y ⊖ m .y .x ⊗ m .x .y
 
--- (first − second) + third, down row 0
+-- (first − second) + third, along row 0
 unfoldable pub det3 : Matrix3 → Float
 det3 m =
     m .x .x ⊗ (m .y .y ⊗ m .z .z ⊖ m .z .y ⊗ m .y .z)
@@ -33,7 +34,7 @@ det3 m =
 unfoldable pub sixTerms : Float → Float → Float → Float → Float → Float → Float → Float → Float → Float
 sixTerms a b c d e f g h i = a ⊗ (b ⊗ c) ⊕ d ⊗ (e ⊗ f) ⊕ g ⊗ (h ⊗ i) ⊖ a ⊗ (e ⊗ i) ⊖ d ⊗ (h ⊗ c) ⊖ g ⊗ (b ⊗ f)
 
--- det_sub_proc of three rows
+-- det_sub_proc of three rows: x .y is the text's s[4 + x]
 unfoldable pub detSubProc : Vector4 → Vector4 → Vector4 → Vector4
 detSubProc x y z =
     vector4
@@ -50,7 +51,7 @@ det4 m = let rows = transpose4 m in dot4 (detSubProc (rows .y) (rows .z) (rows .
 
 -- refusal 2 where the float determinant compares equal to zero: no tolerance, and a NaN is not equal to zero
 unfoldable pub nonzero : Float → Outcome Unit
-nonzero d = cond (eq d zero) (refusedFor Singular) (given tt)
+nonzero d = cond (eq d float0) (refusedFor Singular) (given tt)
 
 -- columns (m[1][1]/d, −m[0][1]/d), (−m[1][0]/d, m[0][0]/d)
 abbrev pub inverse2 : Matrix2 → Float → Matrix2
@@ -61,9 +62,9 @@ abbrev pub inverse3 : Matrix3 → Float → Matrix3
 inverse3 m d =
     transpose3
     (matrix3
-    (divScalar3 (cross3 (m .y) (m .z)) d)
-    (divScalar3 (cross3 (m .z) (m .x)) d)
-    (divScalar3 (cross3 (m .x) (m .y)) d))
+    (vectors.divScalar3 (cross3 (m .y) (m .z)) d)
+    (vectors.divScalar3 (cross3 (m .z) (m .x)) d)
+    (vectors.divScalar3 (cross3 (m .x) (m .y)) d))
 
 -- the matrix without its column i, and each kept column without its element j
 abbrev pub withoutPlace : Matrix4 → ℕ → ℕ → Matrix3
@@ -71,7 +72,7 @@ withoutPlace t i j = ofArray3 (map (without j) (without i (array4 t)))
 
 -- −1 exactly when i+j is odd
 abbrev pub sign : ℕ → ℕ → Float
-sign i j = cond (eqb ((i + j) % 2) 1) (neg one) one
+sign i j = cond (eqb ((i + j) % 2) 1) (neg float1) float1
 
 -- the minor, of the transpose, with its sign
 unfoldable pub cofactor : Matrix4 → ℕ → ℕ → Float
@@ -79,12 +80,13 @@ cofactor t i j = det3 (withoutPlace t i j) ⊗ sign i j
 
 -- column i of the inverse, from the transpose and the reciprocal: row j is minor · sign · reciprocal, left to right
 unfoldable pub inverseColumn : Matrix4 → Float → ℕ → Vector4
-inverseColumn t r i = vector4 (cofactor t i 0 ⊗ r) (cofactor t i 1 ⊗ r) (cofactor t i 2 ⊗ r) (cofactor t i 3 ⊗ r)
+inverseColumn t invDet i =
+    vector4 (cofactor t i 0 ⊗ invDet) (cofactor t i 1 ⊗ invDet) (cofactor t i 2 ⊗ invDet) (cofactor t i 3 ⊗ invDet)
 
 -- every column, by one reciprocal
 abbrev pub inverse4 : Matrix4 → Float → Matrix4
 inverse4 m d =
-    let column = inverseColumn (transpose4 m) (one ⊘ d) in matrix4 (column 0) (column 1) (column 2) (column 3)
+    let column = inverseColumn (transpose4 m) (float1 ⊘ d) in matrix4 (column 0) (column 1) (column 2) (column 3)
 
 -- refused with 2, or the inverse
 abbrev pub invert2 : Matrix2 → Outcome Matrix2

@@ -1,15 +1,15 @@
 -- Document 01, module 3: row, diagonal, transpose and the swaps. Entries are carried untouched.
--- The range tests and the swaps are said once, whatever the order. Assumes nothing.
+-- The range tests and the swaps are said once, whatever the order. A comment holds for the orders below it. Assumes nothing.
 use Prim.Native.Nat.{ℕ}
 use mathlib.Core.List.{List, [], map}
 use lib.ListN.{getD, set}
 use lib.Ieee.{Float, nan}
-use Rattle.vector.specs.Refusals.{Outcome, given, refused, refusedFor, after, below}
+use Rattle.vector.specs.Refusals.{Outcome, given, refusedFor, after, belowLimit}
 use Rattle.vector.specs.Vectors.{vector2, vector3, vector4, entry}
 use Rattle.vector.specs.declared.Vector2.{Vector2}
 use Rattle.vector.specs.declared.Vector3.{Vector3}
 use Rattle.vector.specs.declared.Vector4.{Vector4}
-use Rattle.matrix.specs.Records.{new2, new3, new4, column, array2, array3, array4, ofArray2, ofArray3, ofArray4}
+use Rattle.matrix.specs.Records.{order2, order3, order4, new2, new3, new4, column, array2, array3, array4, ofArray2, ofArray3, ofArray4}
 use Rattle.matrix.specs.declared.places.Column.{Column}
 use Rattle.matrix.specs.declared.places.Row.{Row}
 use Rattle.matrix.specs.declared.places.Checked.{Checked}
@@ -27,11 +27,11 @@ checkedOutcome (Outside cause) = refusedFor cause
 
 -- the row number is below the order
 abbrev pub rowBelow : ℕ → Row → Outcome Unit
-rowBelow n r = below n (r .0)
+rowBelow n r = belowLimit n (r .0)
 
 -- the column number is below the order
 abbrev pub columnBelow : ℕ → Column → Outcome Unit
-columnBelow n c = below n (c .0)
+columnBelow n c = belowLimit n (c .0)
 
 -- both row numbers are
 unfoldable pub rowsBelow : ℕ → Row → Row → Outcome Unit
@@ -85,13 +85,13 @@ swapElements m ac ar bc br = put (put m ac ar (at m bc br)) bc br (at m ac ar)
 
 -- row r
 abbrev pub row2 : Matrix2 → Row → Outcome Vector2
-row2 m r = after (rowBelow 2 r) (given (rowOf2 (array2 m) (r .0)))
+row2 m r = after (rowBelow order2 r) (given (rowOf2 (array2 m) (r .0)))
 
 abbrev pub row3 : Matrix3 → Row → Outcome Vector3
-row3 m r = after (rowBelow 3 r) (given (rowOf3 (array3 m) (r .0)))
+row3 m r = after (rowBelow order3 r) (given (rowOf3 (array3 m) (r .0)))
 
 abbrev pub row4 : Matrix4 → Row → Outcome Vector4
-row4 m r = after (rowBelow 4 r) (given (rowOf4 (array4 m) (r .0)))
+row4 m r = after (rowBelow order4 r) (given (rowOf4 (array4 m) (r .0)))
 
 -- the entries m[i][i]
 abbrev pub diagonal2 : Matrix2 → Vector2
@@ -127,30 +127,30 @@ transpose4 m =
 
 -- rows a and b exchanged
 abbrev pub swapRows2 : Matrix2 → Row → Row → Outcome Matrix2
-swapRows2 m a b = after (rowsBelow 2 a b) (given (ofArray2 (swapRows (array2 m) (a .0) (b .0))))
+swapRows2 m a b = after (rowsBelow order2 a b) (given (ofArray2 (swapRows (array2 m) (a .0) (b .0))))
 
 abbrev pub swapRows3 : Matrix3 → Row → Row → Outcome Matrix3
-swapRows3 m a b = after (rowsBelow 3 a b) (given (ofArray3 (swapRows (array3 m) (a .0) (b .0))))
+swapRows3 m a b = after (rowsBelow order3 a b) (given (ofArray3 (swapRows (array3 m) (a .0) (b .0))))
 
 abbrev pub swapRows4 : Matrix4 → Row → Row → Outcome Matrix4
-swapRows4 m a b = after (rowsBelow 4 a b) (given (ofArray4 (swapRows (array4 m) (a .0) (b .0))))
+swapRows4 m a b = after (rowsBelow order4 a b) (given (ofArray4 (swapRows (array4 m) (a .0) (b .0))))
 
 -- columns a and b exchanged
 abbrev pub swapColumns2 : Matrix2 → Column → Column → Outcome Matrix2
-swapColumns2 m a b = after (columnsBelow 2 a b) (given (ofArray2 (swapColumns (array2 m) (a .0) (b .0))))
+swapColumns2 m a b = after (columnsBelow order2 a b) (given (ofArray2 (swapColumns (array2 m) (a .0) (b .0))))
 
 abbrev pub swapColumns3 : Matrix3 → Column → Column → Outcome Matrix3
-swapColumns3 m a b = after (columnsBelow 3 a b) (given (ofArray3 (swapColumns (array3 m) (a .0) (b .0))))
+swapColumns3 m a b = after (columnsBelow order3 a b) (given (ofArray3 (swapColumns (array3 m) (a .0) (b .0))))
 
 abbrev pub swapColumns4 : Matrix4 → Column → Column → Outcome Matrix4
-swapColumns4 m a b = after (columnsBelow 4 a b) (given (ofArray4 (swapColumns (array4 m) (a .0) (b .0))))
+swapColumns4 m a b = after (columnsBelow order4 a b) (given (ofArray4 (swapColumns (array4 m) (a .0) (b .0))))
 
 -- the entries at two places exchanged
 abbrev pub swapElements2 : Matrix2 → Column → Row → Column → Row → Outcome Matrix2
-swapElements2 m ac ar bc br = after (elementsBelow 2 ac ar bc br) (given (ofArray2 (swapElements (array2 m) (ac .0) (ar .0) (bc .0) (br .0))))
+swapElements2 m ac ar bc br = after (elementsBelow order2 ac ar bc br) (given (ofArray2 (swapElements (array2 m) (ac .0) (ar .0) (bc .0) (br .0))))
 
 abbrev pub swapElements3 : Matrix3 → Column → Row → Column → Row → Outcome Matrix3
-swapElements3 m ac ar bc br = after (elementsBelow 3 ac ar bc br) (given (ofArray3 (swapElements (array3 m) (ac .0) (ar .0) (bc .0) (br .0))))
+swapElements3 m ac ar bc br = after (elementsBelow order3 ac ar bc br) (given (ofArray3 (swapElements (array3 m) (ac .0) (ar .0) (bc .0) (br .0))))
 
 abbrev pub swapElements4 : Matrix4 → Column → Row → Column → Row → Outcome Matrix4
-swapElements4 m ac ar bc br = after (elementsBelow 4 ac ar bc br) (given (ofArray4 (swapElements (array4 m) (ac .0) (ar .0) (bc .0) (br .0))))
+swapElements4 m ac ar bc br = after (elementsBelow order4 ac ar bc br) (given (ofArray4 (swapElements (array4 m) (ac .0) (ar .0) (bc .0) (br .0))))

@@ -1,10 +1,10 @@
 -- Document 01, module 2: the matrix records, their arrays, the builders and the embeddings, column by column.
--- Every number stands where the document and the text put it; nothing is computed here. Assumes nothing.
+-- Every number stands where the document and the text put it; nothing is computed here. A comment holds for the orders below it. Assumes nothing.
 use Prim.Native.Nat.{ℕ}
 use mathlib.Core.List.{List, [], _∷_}
 use lib.ListN.{getD}
 use lib.Ieee.{Float}
-use Rattle.vector.specs.Arithmetic.{zero, one}
+use Rattle.vector.specs.Arithmetic.{float0, float1}
 use Rattle.vector.specs.Refusals.{Outcome, given, refusedFor}
 use Rattle.vector.specs.Vectors.{vector2, vector3, vector4, entries2, entries3, entries4, ofEntries2, ofEntries3, ofEntries4}
 use Rattle.vector.specs.declared.Vector2.{Vector2}
@@ -21,6 +21,16 @@ use Rattle.matrix.specs.declared.records.Matrix3Answer.the-variants as a
 use Rattle.matrix.specs.declared.records.Matrix4Answer.the-variants as answer4
 
 -- ---- the records
+
+-- the order of each record: how many rows and columns it has
+abbrev pub order2 : ℕ
+order2 = 2
+
+abbrev pub order3 : ℕ
+order3 = 3
+
+abbrev pub order4 : ℕ
+order4 = 4
 
 -- the matrix of these columns
 abbrev pub matrix2 : Vector2 → Vector2 → Matrix2
@@ -89,25 +99,25 @@ ofArray4 a =
 abbrev pub fromDiagonal2 : Vector2 → Matrix2
 fromDiagonal2 v =
     new2
-    (v .x) zero
-    zero (v .y)
+    (v .x) float0
+    float0 (v .y)
 
 abbrev pub fromDiagonal3 : Vector3 → Matrix3
 fromDiagonal3 v =
     new3
-    (v .x) zero zero
-    zero (v .y) zero
-    zero zero (v .z)
+    (v .x) float0 float0
+    float0 (v .y) float0
+    float0 float0 (v .z)
 
 abbrev pub fromDiagonal4 : Vector4 → Matrix4
 fromDiagonal4 v =
     new4
-    (v .x) zero zero zero
-    zero (v .y) zero zero
-    zero zero (v .z) zero
-    zero zero zero (v .w)
+    (v .x) float0 float0 float0
+    float0 (v .y) float0 float0
+    float0 float0 (v .z) float0
+    float0 float0 float0 (v .w)
 
--- the value down the diagonal, 0 elsewhere; at order 2 this is also its from_scale
+-- the value down the diagonal, 0 elsewhere; at order 2 this is also from_scale, which the text lacks
 abbrev pub fromValue2 : Float → Matrix2
 fromValue2 s = fromDiagonal2 (vector2 s s)
 
@@ -119,62 +129,62 @@ fromValue4 s = fromDiagonal4 (vector4 s s s s)
 
 -- the zero and the identity of each record
 abbrev pub zero2 : Matrix2
-zero2 = fromValue2 zero
+zero2 = fromValue2 float0
 
 abbrev pub zero3 : Matrix3
-zero3 = fromValue3 zero
+zero3 = fromValue3 float0
 
 abbrev pub zero4 : Matrix4
-zero4 = fromValue4 zero
+zero4 = fromValue4 float0
 
 abbrev pub identity2 : Matrix2
-identity2 = fromValue2 one
+identity2 = fromValue2 float1
 
 abbrev pub identity3 : Matrix3
-identity3 = fromValue3 one
+identity3 = fromValue3 float1
 
 abbrev pub identity4 : Matrix4
-identity4 = fromValue4 one
+identity4 = fromValue4 float1
 
 -- the affine builders: a move of a point by the vector
 abbrev pub fromTranslation3 : Vector2 → Matrix3
 fromTranslation3 v =
     new3
-    one zero zero
-    zero one zero
-    (v .x) (v .y) one
+    float1 float0 float0
+    float0 float1 float0
+    (v .x) (v .y) float1
 
 abbrev pub fromTranslation4 : Vector3 → Matrix4
 fromTranslation4 v =
     new4
-    one zero zero zero
-    zero one zero zero
-    zero zero one zero
-    (v .x) (v .y) (v .z) one
+    float1 float0 float0 float0
+    float0 float1 float0 float0
+    float0 float0 float1 float0
+    (v .x) (v .y) (v .z) float1
 
--- the scale builders: a scale for each coordinate of a point
+-- the scale builders: a scale for each coordinate of a point; from_scale is this at one value for all
 abbrev pub fromNonuniformScale3 : Float → Float → Matrix3
-fromNonuniformScale3 a b = fromDiagonal3 (vector3 a b one)
+fromNonuniformScale3 a b = fromDiagonal3 (vector3 a b float1)
 
 abbrev pub fromNonuniformScale4 : Float → Float → Float → Matrix4
-fromNonuniformScale4 a b c = fromDiagonal4 (vector4 a b c one)
+fromNonuniformScale4 a b c = fromDiagonal4 (vector4 a b c float1)
 
--- ---- embeddings: the entries in the top left corner of the identity
+-- ---- embeddings, from_matrix2 and from_matrix3: the entries in the corner of the identity
 
 abbrev pub embed23 : Matrix2 → Matrix3
 embed23 m =
     new3
-    (m .x .x) (m .x .y) zero
-    (m .y .x) (m .y .y) zero
-    zero zero one
+    (m .x .x) (m .x .y) float0
+    (m .y .x) (m .y .y) float0
+    float0 float0 float1
 
 abbrev pub embed34 : Matrix3 → Matrix4
 embed34 m =
     new4
-    (m .x .x) (m .x .y) (m .x .z) zero
-    (m .y .x) (m .y .y) (m .y .z) zero
-    (m .z .x) (m .z .y) (m .z .z) zero
-    zero zero zero one
+    (m .x .x) (m .x .y) (m .x .z) float0
+    (m .y .x) (m .y .y) (m .y .z) float0
+    (m .z .x) (m .z .y) (m .z .z) float0
+    float0 float0 float0 float1
 
 abbrev pub embed24 : Matrix2 → Matrix4
 embed24 m = embed34 (embed23 m)

@@ -17,30 +17,21 @@ impl Matrix2 {
     pub fn add(self, other: Matrix2) -> Matrix2
         ensures { λ r. ⌜ r ≡ add2 self other ⌝ }
     {
-        Matrix2::from_array([
-            [self.x.x + other.x.x, self.x.y + other.x.y],
-            [self.y.x + other.y.x, self.y.y + other.y.y],
-        ])
+        Matrix2::from_cols(self.x.add(other.x), self.y.add(other.y))
     }
 
     // The difference, entry by entry.
     pub fn sub(self, other: Matrix2) -> Matrix2
         ensures { λ r. ⌜ r ≡ sub2 self other ⌝ }
     {
-        Matrix2::from_array([
-            [self.x.x - other.x.x, self.x.y - other.x.y],
-            [self.y.x - other.y.x, self.y.y - other.y.y],
-        ])
+        Matrix2::from_cols(self.x.sub(other.x), self.y.sub(other.y))
     }
 
     // The scalar, on the left, times each entry.
     pub fn scalar_mul(self, scalar: f64) -> Matrix2
         ensures { λ r. ⌜ r ≡ scalarMul2 scalar self ⌝ }
     {
-        Matrix2::from_array([
-            [scalar * self.x.x, scalar * self.x.y],
-            [scalar * self.y.x, scalar * self.y.y],
-        ])
+        Matrix2::from_cols(self.x.scalar_mul(scalar), self.y.scalar_mul(scalar))
     }
 
     // The scalar, on the left, divided by each entry.
@@ -101,57 +92,33 @@ impl Matrix3 {
     pub fn add(self, other: Matrix3) -> Matrix3
         ensures { λ r. ⌜ r ≡ add3 self other ⌝ }
     {
-        Matrix3::from_array([
-            [
-                self.x.x + other.x.x,
-                self.x.y + other.x.y,
-                self.x.z + other.x.z,
-            ],
-            [
-                self.y.x + other.y.x,
-                self.y.y + other.y.y,
-                self.y.z + other.y.z,
-            ],
-            [
-                self.z.x + other.z.x,
-                self.z.y + other.z.y,
-                self.z.z + other.z.z,
-            ],
-        ])
+        Matrix3::from_cols(
+            self.x.add(other.x),
+            self.y.add(other.y),
+            self.z.add(other.z),
+        )
     }
 
     // The difference, entry by entry.
     pub fn sub(self, other: Matrix3) -> Matrix3
         ensures { λ r. ⌜ r ≡ sub3 self other ⌝ }
     {
-        Matrix3::from_array([
-            [
-                self.x.x - other.x.x,
-                self.x.y - other.x.y,
-                self.x.z - other.x.z,
-            ],
-            [
-                self.y.x - other.y.x,
-                self.y.y - other.y.y,
-                self.y.z - other.y.z,
-            ],
-            [
-                self.z.x - other.z.x,
-                self.z.y - other.z.y,
-                self.z.z - other.z.z,
-            ],
-        ])
+        Matrix3::from_cols(
+            self.x.sub(other.x),
+            self.y.sub(other.y),
+            self.z.sub(other.z),
+        )
     }
 
     // The scalar, on the left, times each entry.
     pub fn scalar_mul(self, scalar: f64) -> Matrix3
         ensures { λ r. ⌜ r ≡ scalarMul3 scalar self ⌝ }
     {
-        Matrix3::from_array([
-            [scalar * self.x.x, scalar * self.x.y, scalar * self.x.z],
-            [scalar * self.y.x, scalar * self.y.y, scalar * self.y.z],
-            [scalar * self.z.x, scalar * self.z.y, scalar * self.z.z],
-        ])
+        Matrix3::from_cols(
+            self.x.scalar_mul(scalar),
+            self.y.scalar_mul(scalar),
+            self.z.scalar_mul(scalar),
+        )
     }
 
     // The scalar, on the left, divided by each entry.
@@ -223,96 +190,36 @@ impl Matrix4 {
     pub fn add(self, other: Matrix4) -> Matrix4
         ensures { λ r. ⌜ r ≡ add4 self other ⌝ }
     {
-        Matrix4::from_array([
-            [
-                self.x.x + other.x.x,
-                self.x.y + other.x.y,
-                self.x.z + other.x.z,
-                self.x.w + other.x.w,
-            ],
-            [
-                self.y.x + other.y.x,
-                self.y.y + other.y.y,
-                self.y.z + other.y.z,
-                self.y.w + other.y.w,
-            ],
-            [
-                self.z.x + other.z.x,
-                self.z.y + other.z.y,
-                self.z.z + other.z.z,
-                self.z.w + other.z.w,
-            ],
-            [
-                self.w.x + other.w.x,
-                self.w.y + other.w.y,
-                self.w.z + other.w.z,
-                self.w.w + other.w.w,
-            ],
-        ])
+        Matrix4::from_cols(
+            self.x.add(other.x),
+            self.y.add(other.y),
+            self.z.add(other.z),
+            self.w.add(other.w),
+        )
     }
 
     // The difference, entry by entry.
     pub fn sub(self, other: Matrix4) -> Matrix4
         ensures { λ r. ⌜ r ≡ sub4 self other ⌝ }
     {
-        Matrix4::from_array([
-            [
-                self.x.x - other.x.x,
-                self.x.y - other.x.y,
-                self.x.z - other.x.z,
-                self.x.w - other.x.w,
-            ],
-            [
-                self.y.x - other.y.x,
-                self.y.y - other.y.y,
-                self.y.z - other.y.z,
-                self.y.w - other.y.w,
-            ],
-            [
-                self.z.x - other.z.x,
-                self.z.y - other.z.y,
-                self.z.z - other.z.z,
-                self.z.w - other.z.w,
-            ],
-            [
-                self.w.x - other.w.x,
-                self.w.y - other.w.y,
-                self.w.z - other.w.z,
-                self.w.w - other.w.w,
-            ],
-        ])
+        Matrix4::from_cols(
+            self.x.sub(other.x),
+            self.y.sub(other.y),
+            self.z.sub(other.z),
+            self.w.sub(other.w),
+        )
     }
 
     // The scalar, on the left, times each entry.
     pub fn scalar_mul(self, scalar: f64) -> Matrix4
         ensures { λ r. ⌜ r ≡ scalarMul4 scalar self ⌝ }
     {
-        Matrix4::from_array([
-            [
-                scalar * self.x.x,
-                scalar * self.x.y,
-                scalar * self.x.z,
-                scalar * self.x.w,
-            ],
-            [
-                scalar * self.y.x,
-                scalar * self.y.y,
-                scalar * self.y.z,
-                scalar * self.y.w,
-            ],
-            [
-                scalar * self.z.x,
-                scalar * self.z.y,
-                scalar * self.z.z,
-                scalar * self.z.w,
-            ],
-            [
-                scalar * self.w.x,
-                scalar * self.w.y,
-                scalar * self.w.z,
-                scalar * self.w.w,
-            ],
-        ])
+        Matrix4::from_cols(
+            self.x.scalar_mul(scalar),
+            self.y.scalar_mul(scalar),
+            self.z.scalar_mul(scalar),
+            self.w.scalar_mul(scalar),
+        )
     }
 
     // The scalar, on the left, divided by each entry.

@@ -74,6 +74,7 @@ impl Matrix4 {
     pub fn determinant(self) -> f64
         ensures { λ r. ⌜ r ≡ det4 self ⌝ }
     {
+        // Column r of the transpose is row r.
         let rows = self.transpose();
         det_sub_proc(rows.y, rows.z, rows.w).dot(rows.x)
     }
@@ -97,20 +98,20 @@ impl Matrix4 {
     }
 }
 
-// Column i of the inverse, from the transpose and the reciprocal of the determinant.
-fn inverse_column(t: Matrix4, reciprocal: f64, i: usize) -> Vector4
+// Column i of the inverse, from the transpose and the determinant's reciprocal.
+fn inverse_column(t: Matrix4, inv_det: f64, i: usize) -> Vector4
     requires { ⌜ i < 4 ⌝ }
-    ensures { λ r. ⌜ r ≡ inverseColumn t reciprocal i ⌝ }
+    ensures { λ r. ⌜ r ≡ inverseColumn t «inv_det» i ⌝ }
 {
     Vector4::new(
-        cf(t, i, 0) * reciprocal,
-        cf(t, i, 1) * reciprocal,
-        cf(t, i, 2) * reciprocal,
-        cf(t, i, 3) * reciprocal,
+        cf(t, i, 0) * inv_det,
+        cf(t, i, 1) * inv_det,
+        cf(t, i, 2) * inv_det,
+        cf(t, i, 3) * inv_det,
     )
 }
 
-// The minor of the transpose without column i and element j, with its sign.
+// The minor of the transpose without column i and element j, with its sign; `inverse_column` multiplies by the reciprocal.
 fn cf(t: Matrix4, i: usize, j: usize) -> f64
     requires { ⌜ (i < 4) × (j < 4) ⌝ }
     ensures { λ r. ⌜ r ≡ cofactor t i j ⌝ }
@@ -150,7 +151,7 @@ fn sign_of(i: usize, j: usize) -> f64
     if (i + j) % 2 == 1 { -1.0 } else { 1.0 }
 }
 
-// The vector of three rows whose dot with the fourth is the determinant.
+// The text's det_sub_proc_unsafe, handed the rows x, y and z in place of their numbers: `x.y` is its `s[4 + x]`.
 fn det_sub_proc(x: Vector4, y: Vector4, z: Vector4) -> Vector4
     ensures { λ r. ⌜ r ≡ detSubProc x y z ⌝ }
 {

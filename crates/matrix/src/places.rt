@@ -2,10 +2,11 @@
 ghost use mathlib.Core.Path.{_≡_};
 ghost use Prim.Native.Nat.{_<_};
 ghost use lib.Ieee.{nan};
+ghost use Rattle.vector.specs.Refusals.{after};
 ghost use Rattle.vector.specs.Refusals.{vector2Outcome, vector3Outcome, vector4Outcome};
 ghost use Rattle.matrix.specs.Records.{matrix2Outcome, matrix3Outcome, matrix4Outcome};
 ghost use Rattle.matrix.specs.Records.{array2, array3, array4, ofArray2, ofArray3, ofArray4};
-ghost use Rattle.matrix.specs.Places.{checkedOutcome, rowBelow, rowsBelow, columnsBelow, elementsBelow};
+ghost use Rattle.matrix.specs.Places.{checkedOutcome, rowBelow, columnBelow, rowsBelow, columnsBelow, elementsBelow};
 ghost use Rattle.matrix.specs.Places.{exchange, rowOf2, rowOf3, rowOf4, swapRows, swapColumns, swapElements};
 ghost use Rattle.matrix.specs.Places.{row2, row3, row4};
 ghost use Rattle.matrix.specs.Places.{diagonal2, diagonal3, diagonal4, transpose2, transpose3, transpose4};
@@ -38,6 +39,18 @@ pub(crate) enum Checked {
     Outside(Refusal),
 }
 
+impl Checked {
+    // What this test found, or else what the next one finds.
+    pub(crate) fn then(self, next: Checked) -> Checked
+        ensures { λ c. ⌜ checkedOutcome c ≡ after (checkedOutcome self) (checkedOutcome next) ⌝ }
+    {
+        match self {
+            Checked::Outside(cause) => Checked::Outside(cause),
+            Checked::Within => next,
+        }
+    }
+}
+
 // Whether the row number is below the order.
 pub(crate) fn check_row(order: usize, r: Row) -> Checked
     ensures { λ c. ⌜ checkedOutcome c ≡ rowBelow order r ⌝ }
@@ -49,49 +62,37 @@ pub(crate) fn check_row(order: usize, r: Row) -> Checked
     }
 }
 
+// Whether the column number is below the order.
+pub(crate) fn check_column(order: usize, c: Column) -> Checked
+    ensures { λ r. ⌜ checkedOutcome r ≡ columnBelow order c ⌝ }
+{
+    if c.0 < order {
+        Checked::Within
+    } else {
+        Checked::Outside(Refusal::OutOfRange)
+    }
+}
+
 // Whether both row numbers are below the order.
 pub(crate) fn check_rows(order: usize, a: Row, b: Row) -> Checked
     ensures { λ c. ⌜ checkedOutcome c ≡ rowsBelow order a b ⌝ }
 {
-    if order <= a.0 {
-        return Checked::Outside(Refusal::OutOfRange);
-    }
-    if order <= b.0 {
-        return Checked::Outside(Refusal::OutOfRange);
-    }
-    Checked::Within
+    check_row(order, a).then(check_row(order, b))
 }
 
 // Whether both column numbers are below the order.
 pub(crate) fn check_columns(order: usize, a: Column, b: Column) -> Checked
     ensures { λ c. ⌜ checkedOutcome c ≡ columnsBelow order a b ⌝ }
 {
-    if order <= a.0 {
-        return Checked::Outside(Refusal::OutOfRange);
-    }
-    if order <= b.0 {
-        return Checked::Outside(Refusal::OutOfRange);
-    }
-    Checked::Within
+    check_column(order, a).then(check_column(order, b))
 }
 
 // Whether both places, each a column first and then a row, lie below the order.
 pub(crate) fn check_elements(order: usize, ac: Column, ar: Row, bc: Column, br: Row) -> Checked
     ensures { λ c. ⌜ checkedOutcome c ≡ elementsBelow order ac ar bc br ⌝ }
 {
-    if order <= ac.0 {
-        return Checked::Outside(Refusal::OutOfRange);
-    }
-    if order <= ar.0 {
-        return Checked::Outside(Refusal::OutOfRange);
-    }
-    if order <= bc.0 {
-        return Checked::Outside(Refusal::OutOfRange);
-    }
-    if order <= br.0 {
-        return Checked::Outside(Refusal::OutOfRange);
-    }
-    Checked::Within
+    let second = check_column(order, bc).then(check_row(order, br));
+    check_column(order, ac).then(check_row(order, ar).then(second))
 }
 
 // The column with entries i and j exchanged.
@@ -138,7 +139,7 @@ fn elements_swapped2(m: [[f64; 2]; 2], ac: usize, ar: usize, bc: usize, br: usiz
 }
 
 impl Matrix2 {
-    // Row r.
+    // Row r, or refusal 1.
     pub fn row(self, r: Row) -> Vector2Answer
         ensures { λ a. ⌜ vector2Outcome a ≡ row2 self r ⌝ }
     {
@@ -162,7 +163,7 @@ impl Matrix2 {
         Matrix2::from_array([[self.x.x, self.y.x], [self.x.y, self.y.y]])
     }
 
-    // Rows a and b exchanged.
+    // Rows a and b exchanged, or refusal 1.
     pub fn swap_rows(self, a: Row, b: Row) -> Matrix2Answer
         ensures { λ r. ⌜ matrix2Outcome r ≡ swapRows2 self a b ⌝ }
     {
@@ -172,7 +173,7 @@ impl Matrix2 {
         }
     }
 
-    // Columns a and b exchanged.
+    // Columns a and b exchanged, or refusal 1.
     pub fn swap_columns(self, a: Column, b: Column) -> Matrix2Answer
         ensures { λ r. ⌜ matrix2Outcome r ≡ swapColumns2 self a b ⌝ }
     {
@@ -185,7 +186,7 @@ impl Matrix2 {
         }
     }
 
-    // The entry in column ac, row ar and the one in column bc, row br exchanged.
+    // The entry in column ac, row ar and the one in column bc, row br exchanged, or refusal 1.
     pub fn swap_elements(self, ac: Column, ar: Row, bc: Column, br: Row) -> Matrix2Answer
         ensures { λ r. ⌜ matrix2Outcome r ≡ swapElements2 self ac ar bc br ⌝ }
     {
@@ -254,7 +255,7 @@ fn elements_swapped3(m: [[f64; 3]; 3], ac: usize, ar: usize, bc: usize, br: usiz
 }
 
 impl Matrix3 {
-    // Row r.
+    // Row r, or refusal 1.
     pub fn row(self, r: Row) -> Vector3Answer
         ensures { λ a. ⌜ vector3Outcome a ≡ row3 self r ⌝ }
     {
@@ -282,7 +283,7 @@ impl Matrix3 {
         ])
     }
 
-    // Rows a and b exchanged.
+    // Rows a and b exchanged, or refusal 1.
     pub fn swap_rows(self, a: Row, b: Row) -> Matrix3Answer
         ensures { λ r. ⌜ matrix3Outcome r ≡ swapRows3 self a b ⌝ }
     {
@@ -292,7 +293,7 @@ impl Matrix3 {
         }
     }
 
-    // Columns a and b exchanged.
+    // Columns a and b exchanged, or refusal 1.
     pub fn swap_columns(self, a: Column, b: Column) -> Matrix3Answer
         ensures { λ r. ⌜ matrix3Outcome r ≡ swapColumns3 self a b ⌝ }
     {
@@ -305,7 +306,7 @@ impl Matrix3 {
         }
     }
 
-    // The entry in column ac, row ar and the one in column bc, row br exchanged.
+    // The entry in column ac, row ar and the one in column bc, row br exchanged, or refusal 1.
     pub fn swap_elements(self, ac: Column, ar: Row, bc: Column, br: Row) -> Matrix3Answer
         ensures { λ r. ⌜ matrix3Outcome r ≡ swapElements3 self ac ar bc br ⌝ }
     {
@@ -375,7 +376,7 @@ fn elements_swapped4(m: [[f64; 4]; 4], ac: usize, ar: usize, bc: usize, br: usiz
 }
 
 impl Matrix4 {
-    // Row r.
+    // Row r, or refusal 1.
     pub fn row(self, r: Row) -> Vector4Answer
         ensures { λ a. ⌜ vector4Outcome a ≡ row4 self r ⌝ }
     {
@@ -404,7 +405,7 @@ impl Matrix4 {
         ])
     }
 
-    // Rows a and b exchanged.
+    // Rows a and b exchanged, or refusal 1.
     pub fn swap_rows(self, a: Row, b: Row) -> Matrix4Answer
         ensures { λ r. ⌜ matrix4Outcome r ≡ swapRows4 self a b ⌝ }
     {
@@ -414,7 +415,7 @@ impl Matrix4 {
         }
     }
 
-    // Columns a and b exchanged.
+    // Columns a and b exchanged, or refusal 1.
     pub fn swap_columns(self, a: Column, b: Column) -> Matrix4Answer
         ensures { λ r. ⌜ matrix4Outcome r ≡ swapColumns4 self a b ⌝ }
     {
@@ -427,7 +428,7 @@ impl Matrix4 {
         }
     }
 
-    // The entry in column ac, row ar and the one in column bc, row br exchanged.
+    // The entry in column ac, row ar and the one in column bc, row br exchanged, or refusal 1.
     pub fn swap_elements(self, ac: Column, ar: Row, bc: Column, br: Row) -> Matrix4Answer
         ensures { λ r. ⌜ matrix4Outcome r ≡ swapElements4 self ac ar bc br ⌝ }
     {

@@ -1,5 +1,6 @@
 // The matrix records, their constants, arrays, builders and embeddings: document 01, module 2.
 ghost use mathlib.Core.Path.{_≡_};
+ghost use Rattle.matrix.specs.Records.{order2, order3, order4};
 ghost use Rattle.matrix.specs.Records.{new2, new3, new4, matrix2, matrix3, matrix4};
 ghost use Rattle.matrix.specs.Records.{zero2, zero3, zero4, identity2, identity3, identity4};
 ghost use Rattle.matrix.specs.Records.{array2, array3, array4, ofArray2, ofArray3, ofArray4};
@@ -16,33 +17,33 @@ use vector::Vector4;
 // A matrix of order 2, as its columns.
 #[repr(C)]
 pub struct Matrix2 {
-    // The first column.
+    // Column 0.
     pub x: Vector2,
-    // The second column.
+    // Column 1.
     pub y: Vector2,
 }
 
 // A matrix of order 3, as its columns.
 #[repr(C)]
 pub struct Matrix3 {
-    // The first column.
+    // Column 0.
     pub x: Vector3,
-    // The second column.
+    // Column 1.
     pub y: Vector3,
-    // The third column.
+    // Column 2.
     pub z: Vector3,
 }
 
 // A matrix of order 4, as its columns.
 #[repr(C)]
 pub struct Matrix4 {
-    // The first column.
+    // Column 0.
     pub x: Vector4,
-    // The second column.
+    // Column 1.
     pub y: Vector4,
-    // The third column.
+    // Column 2.
     pub z: Vector4,
-    // The fourth column.
+    // Column 3.
     pub w: Vector4,
 }
 
@@ -80,21 +81,21 @@ impl Matrix2 {
         y: Vector2 { x: 0.0, y: 1.0 },
     };
 
-    // ORDER, for a contract to name.
+    // ORDER, with its promise: a constant carries none.
     pub fn order() -> usize
-        ensures { λ r. ⌜ r ≡ 2 ⌝ }
+        ensures { λ r. ⌜ r ≡ order2 ⌝ }
     {
         Matrix2::ORDER
     }
 
-    // ZERO, for a contract to name.
+    // ZERO, with its promise.
     pub fn zero() -> Matrix2
         ensures { λ r. ⌜ r ≡ zero2 ⌝ }
     {
         Matrix2::ZERO
     }
 
-    // IDENTITY, for a contract to name.
+    // IDENTITY, with its promise.
     pub fn identity() -> Matrix2
         ensures { λ r. ⌜ r ≡ identity2 ⌝ }
     {
@@ -115,7 +116,7 @@ impl Matrix2 {
         Matrix2 { x: c0, y: c1 }
     }
 
-    // Scales both coordinates by the value.
+    // Scales both coordinates by the value. The Rust has no such builder at order 2.
     pub fn from_scale(value: f64) -> Matrix2
         ensures { λ r. ⌜ r ≡ fromValue2 value ⌝ }
     {
@@ -193,21 +194,21 @@ impl Matrix3 {
         },
     };
 
-    // ORDER, for a contract to name.
+    // ORDER, with its promise: a constant carries none.
     pub fn order() -> usize
-        ensures { λ r. ⌜ r ≡ 3 ⌝ }
+        ensures { λ r. ⌜ r ≡ order3 ⌝ }
     {
         Matrix3::ORDER
     }
 
-    // ZERO, for a contract to name.
+    // ZERO, with its promise.
     pub fn zero() -> Matrix3
         ensures { λ r. ⌜ r ≡ zero3 ⌝ }
     {
         Matrix3::ZERO
     }
 
-    // IDENTITY, for a contract to name.
+    // IDENTITY, with its promise.
     pub fn identity() -> Matrix3
         ensures { λ r. ⌜ r ≡ identity3 ⌝ }
     {
@@ -381,21 +382,21 @@ impl Matrix4 {
         },
     };
 
-    // ORDER, for a contract to name.
+    // ORDER, with its promise: a constant carries none.
     pub fn order() -> usize
-        ensures { λ r. ⌜ r ≡ 4 ⌝ }
+        ensures { λ r. ⌜ r ≡ order4 ⌝ }
     {
         Matrix4::ORDER
     }
 
-    // ZERO, for a contract to name.
+    // ZERO, with its promise.
     pub fn zero() -> Matrix4
         ensures { λ r. ⌜ r ≡ zero4 ⌝ }
     {
         Matrix4::ZERO
     }
 
-    // IDENTITY, for a contract to name.
+    // IDENTITY, with its promise.
     pub fn identity() -> Matrix4
         ensures { λ r. ⌜ r ≡ identity4 ⌝ }
     {

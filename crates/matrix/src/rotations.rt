@@ -42,22 +42,22 @@ impl Matrix3 {
     pub fn from_axis_angle(axis: Vector3, s: f64, c: f64) -> Matrix3
         ensures { λ r. ⌜ r ≡ fromAxisAngle3 axis s c ⌝ }
     {
-        let sub = 1.0 - c;
+        let one_sub_c = 1.0 - c;
         Matrix3::from_array([
             [
-                sub * axis.x * axis.x + c,
-                sub * axis.x * axis.y + s * axis.z,
-                sub * axis.x * axis.z - s * axis.y,
+                one_sub_c * axis.x * axis.x + c,
+                one_sub_c * axis.x * axis.y + s * axis.z,
+                one_sub_c * axis.x * axis.z - s * axis.y,
             ],
             [
-                sub * axis.x * axis.y - s * axis.z,
-                sub * axis.y * axis.y + c,
-                sub * axis.y * axis.z + s * axis.x,
+                one_sub_c * axis.x * axis.y - s * axis.z,
+                one_sub_c * axis.y * axis.y + c,
+                one_sub_c * axis.y * axis.z + s * axis.x,
             ],
             [
-                sub * axis.x * axis.z + s * axis.y,
-                sub * axis.y * axis.z - s * axis.x,
-                sub * axis.z * axis.z + c,
+                one_sub_c * axis.x * axis.z + s * axis.y,
+                one_sub_c * axis.y * axis.z - s * axis.x,
+                one_sub_c * axis.z * axis.z + c,
             ],
         ])
     }

@@ -2,7 +2,7 @@
 use mathlib.Core.Path.{refl}
 use lib.Count.{trailingZeros}
 use lib.Ieee.{add, sub, mul, div, neg, eq, ofInt, ofBits, ofFields, round, sum, size, span, climb, units, odd}
-use Rattle.vector.specs.Refusals.{below}
+use Rattle.vector.specs.Refusals.{belowLimit}
 use Rattle.matrix.specs.Places.{rowsBelow, columnsBelow}
 use Rattle.matrix.specs.Inverse.{det2, det3, det4, sixTerms, detSubProc, nonzero, cofactor, inverseColumn}
 use Rattle.reference.specs.Cases.{Claims}
@@ -10,5 +10,5 @@ use Rattle.reference.specs.Table.{table}
 
 -- R1 to R11
 pub reference : Claims table
-unfolding add sub mul div neg eq ofInt ofBits ofFields round sum size span climb units odd trailingZeros below rowsBelow columnsBelow det2 det3 det4 sixTerms detSubProc nonzero cofactor inverseColumn
-reference = (refl, (refl, (refl, (refl, (refl, (refl, (refl, (refl, (tt, (tt, (refl, (refl, (refl, (tt, (tt, (refl, (refl, tt)))))))))))))))))
+unfolding add sub mul div neg eq ofInt ofBits ofFields round sum size span climb units odd trailingZeros belowLimit rowsBelow columnsBelow det2 det3 det4 sixTerms detSubProc nonzero cofactor inverseColumn
+reference = (refl, (refl, (refl, (refl, (refl, (refl, (refl, (refl, (refl, (tt, (refl, (refl, (refl, (refl, (tt, (refl, (refl, tt)))))))))))))))))

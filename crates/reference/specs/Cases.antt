@@ -4,11 +4,11 @@ use Prim.Native.Nat.{ℕ}
 use mathlib.Core.Path.{_≡_}
 use mathlib.Core.Bool.{Bool, true, false, _&&_}
 use mathlib.Core.List.{List, [], _∷_}
-use lib.Dec.{T, eqb}
+use lib.Dec.{T}
 use lib.Ieee.{Float, eq}
 use Rattle.vector.specs.Refusals.{Outcome, given, refused}
-use Rattle.vector.specs.Vectors.{entry, ofEntries3}
-use Rattle.matrix.specs.Records.{column, array2, array3, array4, ofArray2, ofArray3, ofArray4}
+use Rattle.vector.specs.Vectors.{ofEntries3}
+use Rattle.matrix.specs.Records.{array2, array3, array4, ofArray2, ofArray3, ofArray4}
 use Rattle.matrix.specs.Places as places
 use Rattle.matrix.specs.Arithmetic.{mul2}
 use Rattle.matrix.specs.Inverse.{det2, det3, det4, invert2, invert3, invert4}
@@ -31,7 +31,7 @@ pub data Expected : Type 0 where
   exactly numerically : Columns → Expected
   refusal : ℕ → Expected
 
--- a case: its number in document 01, the operation with its inputs, and the expected outcome
+-- a case: its number in document 01, for the reader; the operation with its inputs; the expected outcome
 pub record Case : Type 0 where
   pub label : ℕ
   pub operation : Operation
@@ -40,18 +40,19 @@ pub record Case : Type 0 where
 -- ---- what an operation answers, by the definitions that the promises of `matrix` cite
 
 -- a number as one column of one number
-abbrev pub number : Float → Columns
-number x = (x ∷ []) ∷ []
+abbrev pub single : Float → Columns
+single x = (x ∷ []) ∷ []
 
 -- an outcome's matrix as columns
 abbrev pub columns : {M : Type 0} → (M → Columns) → Outcome M → Outcome Columns
 columns array (given m) = given (array m)
 columns array (refused n) = refused n
 
+-- the outcome of an operation
 abbrev pub answer : Operation → Outcome Columns
-answer (determinant2 m) = given (number (det2 (ofArray2 m)))
-answer (determinant3 m) = given (number (det3 (ofArray3 m)))
-answer (determinant4 m) = given (number (det4 (ofArray4 m)))
+answer (determinant2 m) = given (single (det2 (ofArray2 m)))
+answer (determinant3 m) = given (single (det3 (ofArray3 m)))
+answer (determinant4 m) = given (single (det4 (ofArray4 m)))
 answer (invert2of m) = columns array2 (invert2 (ofArray2 m))
 answer (invert3of m) = columns array3 (invert3 (ofArray3 m))
 answer (invert4of m) = columns array4 (invert4 (ofArray4 m))
@@ -69,6 +70,7 @@ equalColumn [] (y ∷ v) = false
 equalColumn (x ∷ u) [] = false
 equalColumn (x ∷ u) (y ∷ v) = eq x y && equalColumn u v
 
+-- and column by column
 abbrev pub equalColumns : Columns → Columns → Bool
 equalColumns [] [] = true
 equalColumns [] (v ∷ b) = false

@@ -1,20 +1,20 @@
 -- Document 01, 'Reference cases, both sides of each edge': R1 to R11 as data, columns in brackets.
--- Exact, the sign of zero included, in R1 to R4, R5 (NaN) and R7 to R9; numerically only in R6 and R10. Assumes nothing.
+-- Exact, the sign of zero included, but for the inverses of R6 and R10, which are numerical; a NaN in R5. Assumes nothing.
 use Prim.Native.Nat.{ℕ}
 use mathlib.Core.Bool.{true, false}
 use mathlib.Core.List.{List, [], _∷_}
 use lib.IntN.{pos, negsuc, negℤ}
 use lib.Ieee.{Float, nan, fin, binary64, ofInt}
-use Rattle.reference.specs.Cases.{Columns, Operation, determinant2, determinant3, determinant4, invert2of, invert3of, invert4of, times2, axisAngle3, swapRows2, swapColumns2, Expected, exactly, numerically, refusal, Case, number}
+use Rattle.reference.specs.Cases.{Columns, Operation, determinant2, determinant3, determinant4, invert2of, invert3of, invert4of, times2, axisAngle3, swapRows2, swapColumns2, Expected, exactly, numerically, refusal, Case, single}
 
 -- ---- numbers
 
--- n and −n
-abbrev pub plus : ℕ → Float
-plus n = ofInt binary64 (pos n)
+-- the whole numbers n and −n
+abbrev pub whole : ℕ → Float
+whole n = ofInt binary64 (pos n)
 
-abbrev pub minus : ℕ → Float
-minus n = ofInt binary64 (negℤ (pos n))
+abbrev pub negative : ℕ → Float
+negative n = ofInt binary64 (negℤ (pos n))
 
 -- −0.0, 1·2^−1 and 1·2^−2
 abbrev pub minusZero : Float
@@ -40,34 +40,34 @@ of4 a b c d = a ∷ b ∷ c ∷ d ∷ []
 -- ---- the matrices that stand in more than one case
 
 abbrev pub m1 : Columns
-m1 = of2 (of2 (plus 3) (plus 5)) (of2 (plus 1) (plus 2))
+m1 = of2 (of2 (whole 3) (whole 5)) (of2 (whole 1) (whole 2))
 
 abbrev pub m4 : Columns
-m4 = of2 (of2 (minus 1) (plus 0)) (of2 (plus 0) (plus 0))
+m4 = of2 (of2 (negative 1) (whole 0)) (of2 (whole 0) (whole 0))
 
 abbrev pub m5 : Columns
-m5 = of2 (of2 nan (plus 0)) (of2 (plus 0) (plus 0))
+m5 = of2 (of2 nan (whole 0)) (of2 (whole 0) (whole 0))
 
 abbrev pub m6 : Columns
 m6 =
     of3
-    (of3 (plus 0) (plus 1) (plus 0))
-    (of3 (minus 1) (plus 0) (plus 0))
-    (of3 (plus 10) (plus 20) (plus 1))
+    (of3 (whole 0) (whole 1) (whole 0))
+    (of3 (negative 1) (whole 0) (whole 0))
+    (of3 (whole 10) (whole 20) (whole 1))
 
 abbrev pub m7 : Columns
-m7 = of2 (of2 (plus 1) (plus 0)) (of2 (plus 1) (plus 1))
+m7 = of2 (of2 (whole 1) (whole 0)) (of2 (whole 1) (whole 1))
 
 abbrev pub m8 : Columns
-m8 = of2 (of2 (plus 1) (plus 1)) (of2 (plus 0) (plus 1))
+m8 = of2 (of2 (whole 1) (whole 1)) (of2 (whole 0) (whole 1))
 
 abbrev pub m10 : Columns
 m10 =
     of4
-    (of4 (plus 2) (plus 0) (plus 0) (plus 0))
-    (of4 (plus 0) (plus 2) (plus 0) (plus 0))
-    (of4 (plus 0) (plus 0) (plus 2) (plus 0))
-    (of4 (plus 4) (plus 6) (plus 8) (plus 1))
+    (of4 (whole 2) (whole 0) (whole 0) (whole 0))
+    (of4 (whole 0) (whole 2) (whole 0) (whole 0))
+    (of4 (whole 0) (whole 0) (whole 2) (whole 0))
+    (of4 (whole 4) (whole 6) (whole 8) (whole 1))
 
 -- ---- the table
 
@@ -75,23 +75,24 @@ m10 =
 abbrev pub case : ℕ → Operation → Expected → Case
 case n operation expected = record { label = n; operation = operation; expected = expected }
 
+-- R1 to R11
 abbrev pub table : List Case
 table =
-    case 1 (determinant2 m1) (exactly (number (plus 1)))
-    ∷ case 1 (invert2of m1) (exactly (of2 (of2 (plus 2) (minus 5)) (of2 (minus 1) (plus 3))))
-    ∷ case 2 (invert2of (of2 (of2 (plus 2) (plus 0)) (of2 (plus 0) (plus 4)))) (exactly (of2 (of2 half minusZero) (of2 minusZero quarter)))
-    ∷ case 3 (invert2of (of2 (of2 (plus 1) (plus 2)) (of2 (plus 2) (plus 4)))) (refusal 2)
-    ∷ case 4 (determinant2 m4) (exactly (number minusZero))
+    case 1 (determinant2 m1) (exactly (single (whole 1)))
+    ∷ case 1 (invert2of m1) (exactly (of2 (of2 (whole 2) (negative 5)) (of2 (negative 1) (whole 3))))
+    ∷ case 2 (invert2of (of2 (of2 (whole 2) (whole 0)) (of2 (whole 0) (whole 4)))) (exactly (of2 (of2 half minusZero) (of2 minusZero quarter)))
+    ∷ case 3 (invert2of (of2 (of2 (whole 1) (whole 2)) (of2 (whole 2) (whole 4)))) (refusal 2)
+    ∷ case 4 (determinant2 m4) (exactly (single minusZero))
     ∷ case 4 (invert2of m4) (refusal 2)
-    ∷ case 5 (determinant2 m5) (exactly (number nan))
+    ∷ case 5 (determinant2 m5) (exactly (single nan))
     ∷ case 5 (invert2of m5) (exactly (of2 (of2 nan nan) (of2 nan nan)))
-    ∷ case 6 (determinant3 m6) (numerically (number (plus 1)))
-    ∷ case 6 (invert3of m6) (numerically (of3 (of3 (plus 0) (minus 1) (plus 0)) (of3 (plus 1) (plus 0) (plus 0)) (of3 (minus 20) (plus 10) (plus 1))))
-    ∷ case 7 (times2 m7 m8) (exactly (of2 (of2 (plus 2) (plus 1)) (of2 (plus 1) (plus 1))))
-    ∷ case 8 (times2 m8 m7) (exactly (of2 (of2 (plus 1) (plus 1)) (of2 (plus 1) (plus 2))))
-    ∷ case 9 (axisAngle3 (of3 (plus 0) (plus 0) (plus 1)) (plus 1) (plus 0)) (exactly (of3 (of3 (plus 0) (plus 1) (plus 0)) (of3 (minus 1) (plus 0) (plus 0)) (of3 (plus 0) (plus 0) (plus 1))))
-    ∷ case 10 (determinant4 m10) (numerically (number (plus 8)))
-    ∷ case 10 (invert4of m10) (numerically (of4 (of4 half (plus 0) (plus 0) (plus 0)) (of4 (plus 0) half (plus 0) (plus 0)) (of4 (plus 0) (plus 0) half (plus 0)) (of4 (minus 2) (minus 3) (minus 4) (plus 1))))
+    ∷ case 6 (determinant3 m6) (exactly (single (whole 1)))
+    ∷ case 6 (invert3of m6) (numerically (of3 (of3 (whole 0) (negative 1) (whole 0)) (of3 (whole 1) (whole 0) (whole 0)) (of3 (negative 20) (whole 10) (whole 1))))
+    ∷ case 7 (times2 m7 m8) (exactly (of2 (of2 (whole 2) (whole 1)) (of2 (whole 1) (whole 1))))
+    ∷ case 8 (times2 m8 m7) (exactly (of2 (of2 (whole 1) (whole 1)) (of2 (whole 1) (whole 2))))
+    ∷ case 9 (axisAngle3 (of3 (whole 0) (whole 0) (whole 1)) (whole 1) (whole 0)) (exactly (of3 (of3 (whole 0) (whole 1) (whole 0)) (of3 (negative 1) (whole 0) (whole 0)) (of3 (whole 0) (whole 0) (whole 1))))
+    ∷ case 10 (determinant4 m10) (exactly (single (whole 8)))
+    ∷ case 10 (invert4of m10) (numerically (of4 (of4 half (whole 0) (whole 0) (whole 0)) (of4 (whole 0) half (whole 0) (whole 0)) (of4 (whole 0) (whole 0) half (whole 0)) (of4 (negative 2) (negative 3) (negative 4) (whole 1))))
     ∷ case 11 (swapRows2 m1 1 1) (exactly m1)
     ∷ case 11 (swapColumns2 m1 5 5) (refusal 1)
     ∷ []

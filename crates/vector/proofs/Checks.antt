@@ -7,16 +7,16 @@ use native.Mathlib.Omega.{arith}
 use lib.Dec.{ltb}
 use borrow.Author.Tests.{lt-ltb, le-ltb, ltb-true}
 use Rattle.vector.specs.declared.refusal.Refusal.the-variants.{OutOfRange}
-use Rattle.vector.specs.Refusals.{Outcome, given, refused, refusedFor, below}
+use Rattle.vector.specs.Refusals.{Outcome, given, refused, refusedFor, belowLimit}
 
 -- a number below the limit passes
-pub within : (limit n : ℕ) → n < limit → below limit n ≡ given tt
-unfolding below
+pub within : (limit n : ℕ) → n < limit → belowLimit limit n ≡ given tt
+unfolding belowLimit
 within limit n h = simp (lt-ltb n limit h)
 
 -- a number not below the limit is refused, with 1
-pub outside : (limit n : ℕ) → limit ≤ n → below limit n ≡ refusedFor OutOfRange
-unfolding below
+pub outside : (limit n : ℕ) → limit ≤ n → belowLimit limit n ≡ refusedFor OutOfRange
+unfolding belowLimit
 outside limit n h = simp (le-ltb n limit h)
 
 -- a test whose refusal did not come was true
@@ -25,6 +25,6 @@ passed true k e = cc
 passed false k e = let absurd : _≡_ {A = ℕ} 0 1 = cc in cc
 
 -- what passes is below the limit
-pub passes : (limit n : ℕ) → below limit n ≡ given tt → n < limit
-unfolding below
+pub passes : (limit n : ℕ) → belowLimit limit n ≡ given tt → n < limit
+unfolding belowLimit
 passes limit n e = ltb-true n limit (passed (ltb n limit) 1 e)

@@ -23,9 +23,9 @@ abbrev pub _⊘_ : Float → Float → Float
 x ⊘ y = div binary64 x y
 
 -- 0.0, by its bit pattern
-abbrev pub zero : Float
-zero = ofBits binary64 0
+abbrev pub float0 : Float
+float0 = ofBits binary64 0
 
 -- 1.0, by its bit pattern
-abbrev pub one : Float
-one = ofBits binary64 0x3ff0_0000_0000_0000
+abbrev pub float1 : Float
+float1 = ofBits binary64 0x3ff0_0000_0000_0000

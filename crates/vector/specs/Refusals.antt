@@ -39,20 +39,20 @@ after (given _) outcome = outcome
 after (refused n) outcome = refused n
 
 -- refusal 1 unless the number is below the order or the length
-unfoldable pub below : ℕ → ℕ → Outcome Unit
-below limit n = cond (ltb n limit) (given tt) (refusedFor OutOfRange)
+unfoldable pub belowLimit : ℕ → ℕ → Outcome Unit
+belowLimit limit n = cond (ltb n limit) (given tt) (refusedFor OutOfRange)
 
--- what an answer of two numbers means
+-- what an answer of two numbers means (a row of order 2)
 abbrev pub vector2Outcome : Vector2Answer → Outcome Vector2
 vector2Outcome (answer2.Given v) = given v
 vector2Outcome (answer2.Refused cause) = refusedFor cause
 
--- what an answer of three numbers means
+-- what an answer of three numbers means (a dropped element, a row of order 3)
 abbrev pub vector3Outcome : Vector3Answer → Outcome Vector3
 vector3Outcome (answer3.Given v) = given v
 vector3Outcome (answer3.Refused cause) = refusedFor cause
 
--- what an answer of four numbers means
+-- what an answer of four numbers means (a row of order 4)
 abbrev pub vector4Outcome : Vector4Answer → Outcome Vector4
 vector4Outcome (answer4.Given v) = given v
 vector4Outcome (answer4.Refused cause) = refusedFor cause

@@ -1,11 +1,11 @@
 -- Document 01, module 1: vectors of two, three and four numbers.
--- Each operation as the document writes it, over one map and one zip for each length. Assumes nothing.
+-- Each operation as the document writes it, over one map and one zip for each length. A comment holds for the lengths below it. Assumes nothing.
 use Prim.Native.Nat.{ℕ, suc}
 use mathlib.Core.List.{List, [], _∷_, _++_}
 use lib.ListN.{getD, take, drop}
 use lib.Ieee.{Float, nan}
 use Rattle.vector.specs.Arithmetic.{_⊕_, _⊖_, _⊗_, _⊘_}
-use Rattle.vector.specs.Refusals.{Outcome, given, after, below}
+use Rattle.vector.specs.Refusals.{Outcome, given, after, belowLimit}
 use Rattle.vector.specs.declared.Vector2.{Vector2}
 use Rattle.vector.specs.declared.Vector3.{Vector3}
 use Rattle.vector.specs.declared.Vector4.{Vector4}
@@ -32,7 +32,7 @@ entries3 v = v .x ∷ v .y ∷ v .z ∷ []
 abbrev pub entries4 : Vector4 → List Float
 entries4 v = v .x ∷ v .y ∷ v .z ∷ v .w ∷ []
 
--- the entry of a list at place i; past its end a NaN stands, which no operation here reads
+-- the entry of a list at place i; past its end a NaN stands, which no outcome shows
 abbrev pub entry : List Float → ℕ → Float
 entry l i = getD l i nan
 
@@ -130,4 +130,4 @@ without n l = take n l ++ drop (suc n) l
 
 -- four entries without element n, the three left in order; refusal 1 unless n is below four
 abbrev pub truncateN4 : Vector4 → ℕ → Outcome Vector3
-truncateN4 v n = after (below 4 n) (given (ofEntries3 (without n (entries4 v))))
+truncateN4 v n = after (belowLimit 4 n) (given (ofEntries3 (without n (entries4 v))))

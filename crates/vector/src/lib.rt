@@ -195,7 +195,7 @@ impl Vector4 {
         self.x * other.x + (self.y * other.y + (self.z * other.z + self.w * other.w))
     }
 
-    // The other three entries in their order, without entry n.
+    // The other three entries in their order, without entry n, or refusal 1.
     pub fn truncate_n(self, n: usize) -> Vector3Answer
         ensures { λ r. ⌜ vector3Outcome r ≡ truncateN4 self n ⌝ }
     {

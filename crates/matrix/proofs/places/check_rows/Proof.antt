@@ -1,20 +1,22 @@
--- `check_rows` finds what its definition says, by the tests that were taken. Assumes nothing.
-use Rattle.vector.proofs.Checks.{within, outside}
+-- The two tests, one after the other, as the definition has them. Assumes nothing.
 use Rattle.matrix.specs.Places.{rowsBelow}
+use borrow.Author.Needs.{needs}
 use Rattle.matrix.proofs.places.check_rows.Statement.{statement}
 use Rattle.matrix.proofs.places.check_rows.Tie as tie
 
+check-row-requires : tie.Need-check-row-requires
+check-row-requires c κs = search needs
+
+check-row-requires-2 : tie.Need-check-row-requires-2
+check-row-requires-2 c κs = search needs
+
+then-requires : tie.Need-then-requires
+then-requires c κs = search needs
+
 returns : tie.Need-returns
 unfolding rowsBelow
-returns c = rw (outside _ _ (c .if1 .taken))
-
-returns-2 : tie.Need-returns-2
-unfolding rowsBelow
-returns-2 c = rw (within _ _ (c .before .before .if1 .left), outside _ _ (c .if2 .taken))
-
-returns-3 : tie.Need-returns-3
-unfolding rowsBelow
-returns-3 c = rw (within _ _ (c .before .before .if1 .left), within _ _ (c .if2 .left))
+returns c = rw (c .then .ensures, c .before .check-row2 .ensures, c .before .before .check-row .ensures)
 
 pub check-rows-spec : {M : Type 1} → statement M
-check-rows-spec = tie.close (tie.spec returns returns-2 returns-3)
+check-rows-spec =
+    tie.close (tie.spec check-row-requires check-row-requires-2 then-requires returns)
