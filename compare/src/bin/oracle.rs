@@ -1,0 +1,28 @@
+//! Writes the list of cgmath's answers to the standard output.
+
+use compare::{list::List, operations, random::SEED};
+
+fn main() {
+    std::panic::set_hook(Box::new(|_| {}));
+    let mut list = List::default();
+    for line in HEAD.lines() {
+        list.comment(line);
+    }
+    list.comment(&format!("The inputs are drawn from the seed {SEED:#x}."));
+    operations::all(&mut list);
+    print!("{}", list.text);
+}
+
+/// What the list says of itself.
+const HEAD: &str = "\
+The answers of cgmath 0.18.0's src/matrix.rs, written by compare/ (its README.md has the command).
+A line: operation, order, class of input, the words it reads, then '=' and the entries of the answer,
+or '!' and the number of the refusal. Matrices stand column by column.
+A word is the hexadecimal bit pattern of an f64 without the zeros at its end: 3ff is 1.0, 4 is 2.0, 8 is -0.0.
+'@' stands before a place and before a refusal's number, which are plain hexadecimal numbers.
+Every NaN that is answered is written 7ff8. A panic is refusal 1, and None is refusal 2.
+Where the class ends with '*' the answer is not cgmath's but a second computation's.
+A rotation reads a sine, a cosine, and the axis if it has one; without '*' they are those of an angle.
+Dot, cross, truncate_n and the sums of vectors are those of the cgmath that compare/ was built with:
+the list settles nothing about them where that was not the published crate.
+The line 'planted' states a wrong answer on purpose.";

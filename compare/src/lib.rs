@@ -1,0 +1,8 @@
+//! Makes the list of cgmath's answers that `crates/replay` replays: see README.md.
+
+pub mod classes;
+pub mod entries;
+pub mod list;
+pub mod operations;
+pub mod random;
+pub mod second;

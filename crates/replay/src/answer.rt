@@ -1,0 +1,205 @@
+// What an operation answers: the bit patterns of its entries, or the number of a refusal.
+use bits::pattern;
+use matrix::Matrix2;
+use matrix::Matrix2Answer;
+use matrix::Matrix3;
+use matrix::Matrix3Answer;
+use matrix::Matrix4;
+use matrix::Matrix4Answer;
+use vector::Refusal;
+use vector::Vector2;
+use vector::Vector2Answer;
+use vector::Vector3;
+use vector::Vector3Answer;
+use vector::Vector4;
+use vector::Vector4Answer;
+
+// What stands for a refusal's number where there is no such operation of this order.
+pub const UNKNOWN: u64 = 255;
+
+// A refusal's number, or 0; how many entries there are; their patterns, and 0 behind the last.
+pub struct Answer {
+    pub refusal: u64,
+    pub count: usize,
+    pub entries: [u64; 16],
+}
+
+impl Answer {
+    // These entries.
+    pub(crate) fn given(count: usize, entries: [u64; 16]) -> Answer {
+        Answer {
+            refusal: 0,
+            count,
+            entries,
+        }
+    }
+
+    // This number of a refusal.
+    pub(crate) fn refused(refusal: u64) -> Answer {
+        Answer {
+            refusal,
+            count: 0,
+            entries: [0; 16],
+        }
+    }
+
+    // There is no such operation of this order.
+    pub(crate) fn unknown() -> Answer {
+        Answer::refused(UNKNOWN)
+    }
+
+    // A cause of refusal.
+    fn cause(cause: Refusal) -> Answer {
+        Answer::refused(cause.number() as u64)
+    }
+
+    // One number.
+    pub(crate) fn number(x: f64) -> Answer {
+        let mut entries = [0u64; 16];
+        entries[0] = pattern(x);
+        Answer::given(1, entries)
+    }
+
+    // Two numbers.
+    pub(crate) fn vector2(v: Vector2) -> Answer {
+        let mut entries = [0u64; 16];
+        entries[0] = pattern(v.x);
+        entries[1] = pattern(v.y);
+        Answer::given(2, entries)
+    }
+
+    // Three numbers.
+    pub(crate) fn vector3(v: Vector3) -> Answer {
+        let mut entries = [0u64; 16];
+        entries[0] = pattern(v.x);
+        entries[1] = pattern(v.y);
+        entries[2] = pattern(v.z);
+        Answer::given(3, entries)
+    }
+
+    // Four numbers.
+    pub(crate) fn vector4(v: Vector4) -> Answer {
+        let mut entries = [0u64; 16];
+        entries[0] = pattern(v.x);
+        entries[1] = pattern(v.y);
+        entries[2] = pattern(v.z);
+        entries[3] = pattern(v.w);
+        Answer::given(4, entries)
+    }
+
+    // The entries of a matrix, column by column.
+    pub(crate) fn matrix2(m: Matrix2) -> Answer {
+        let mut entries = [0u64; 16];
+        entries[0] = pattern(m.x.x);
+        entries[1] = pattern(m.x.y);
+        entries[2] = pattern(m.y.x);
+        entries[3] = pattern(m.y.y);
+        Answer::given(4, entries)
+    }
+
+    // The entries of a matrix, column by column.
+    pub(crate) fn matrix3(m: Matrix3) -> Answer {
+        let mut entries = [0u64; 16];
+        entries[0] = pattern(m.x.x);
+        entries[1] = pattern(m.x.y);
+        entries[2] = pattern(m.x.z);
+        entries[3] = pattern(m.y.x);
+        entries[4] = pattern(m.y.y);
+        entries[5] = pattern(m.y.z);
+        entries[6] = pattern(m.z.x);
+        entries[7] = pattern(m.z.y);
+        entries[8] = pattern(m.z.z);
+        Answer::given(9, entries)
+    }
+
+    // The entries of a matrix, column by column.
+    pub(crate) fn matrix4(m: Matrix4) -> Answer {
+        Answer::given(
+            16,
+            [
+                pattern(m.x.x),
+                pattern(m.x.y),
+                pattern(m.x.z),
+                pattern(m.x.w),
+                pattern(m.y.x),
+                pattern(m.y.y),
+                pattern(m.y.z),
+                pattern(m.y.w),
+                pattern(m.z.x),
+                pattern(m.z.y),
+                pattern(m.z.z),
+                pattern(m.z.w),
+                pattern(m.w.x),
+                pattern(m.w.y),
+                pattern(m.w.z),
+                pattern(m.w.w),
+            ],
+        )
+    }
+
+    // Two numbers or a refusal.
+    pub(crate) fn of_vector2(answer: Vector2Answer) -> Answer {
+        match answer {
+            Vector2Answer::Given(v) => Answer::vector2(v),
+            Vector2Answer::Refused(cause) => Answer::cause(cause),
+        }
+    }
+
+    // Three numbers or a refusal.
+    pub(crate) fn of_vector3(answer: Vector3Answer) -> Answer {
+        match answer {
+            Vector3Answer::Given(v) => Answer::vector3(v),
+            Vector3Answer::Refused(cause) => Answer::cause(cause),
+        }
+    }
+
+    // Four numbers or a refusal.
+    pub(crate) fn of_vector4(answer: Vector4Answer) -> Answer {
+        match answer {
+            Vector4Answer::Given(v) => Answer::vector4(v),
+            Vector4Answer::Refused(cause) => Answer::cause(cause),
+        }
+    }
+
+    // A matrix or a refusal.
+    pub(crate) fn of_matrix2(answer: Matrix2Answer) -> Answer {
+        match answer {
+            Matrix2Answer::Given(m) => Answer::matrix2(m),
+            Matrix2Answer::Refused(cause) => Answer::cause(cause),
+        }
+    }
+
+    // A matrix or a refusal.
+    pub(crate) fn of_matrix3(answer: Matrix3Answer) -> Answer {
+        match answer {
+            Matrix3Answer::Given(m) => Answer::matrix3(m),
+            Matrix3Answer::Refused(cause) => Answer::cause(cause),
+        }
+    }
+
+    // A matrix or a refusal.
+    pub(crate) fn of_matrix4(answer: Matrix4Answer) -> Answer {
+        match answer {
+            Matrix4Answer::Given(m) => Answer::matrix4(m),
+            Matrix4Answer::Refused(cause) => Answer::cause(cause),
+        }
+    }
+
+    // Whether both refuse with one number, or both give the same patterns.
+    pub(crate) fn equals(self, other: Answer) -> bool {
+        if self.refusal != other.refusal {
+            return false;
+        }
+        if self.count != other.count {
+            return false;
+        }
+        let mut i = 0;
+        while i < 16 {
+            if self.entries[i] != other.entries[i] {
+                return false;
+            }
+            i += 1;
+        }
+        true
+    }
+}
