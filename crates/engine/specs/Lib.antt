@@ -1,0 +1,4 @@
+pub mod Whole
+pub mod Orders
+pub mod Engine
+pub mod Demand

@@ -1,0 +1,12 @@
+pub mod Signed
+pub mod Value
+pub mod Bounds
+pub mod Rounding
+pub mod Operations
+pub mod Quotients
+pub mod Compare
+pub mod Order
+pub mod Literals
+pub mod Integers
+pub mod Known
+pub mod Reading

@@ -1,0 +1,14 @@
+pub mod Ring
+pub mod Formula
+pub mod Parity
+pub mod Lists
+pub mod Skip
+pub mod Sum
+pub mod Orders
+pub mod Expansion
+pub mod Adjugate
+pub mod Singular
+pub mod Inverse
+pub mod Written
+pub mod Bounds
+pub mod Table
