@@ -79,6 +79,13 @@ WRONG = {
         "rotations.rt Matrix{4}::from_angle_z": [("around another axis", "from_angle_z", "from_angle_x"), ("sine and cosine exchanged", "(s, c)", "(c, s)")],
         "rotations.rt Matrix{4}::from_axis_angle": [("sine and cosine exchanged", "s, c)", "c, s)"), ("around an axis of its own", "(axis,", "(Vector3::new(0.0, 0.0, 1.0),")],
     },
+    "engine": {
+        "sum.rt signed_sum{234}": [("a row and a column left out", ", {n})", ", {n} - 1)"), ("no column at all", ", {n})", ", 0)")],
+        "undoable.rt undoable{234}": [("of the identity", "(m)", "(Matrix{n}::IDENTITY)"), ("of zero", "(m)", "(Matrix{n}::ZERO)")],
+        "undoable.rt one_bit": [("yes at zero", "== 1", "<= 1"), ("two bits", "== 1", "== 2")],
+        "cofactors.rt cofactor{234}": [("the range test at another order", "{n}, c, r", "{n} - 1, c, r"), ("column and row exchanged", "c, r)", "Column(r.0), Row(c.0))")],
+        "cofactors.rt cofactor_answer": [("the place tested after the entries' refusal", "Refusal::OutOfRange", "Refusal::NotWhole"), ("another place", "c.0, r.0)", "r.0, c.0)")],
+    },
 }
 
 

@@ -2,6 +2,7 @@
 // Expected values come from document 01 or are worked out by hand, on numbers where every step is exact.
 mod arithmetic;
 mod count;
+mod engine_cases;
 mod inverse;
 mod places;
 mod records;
@@ -18,5 +19,6 @@ fn main() {
     let c = arithmetic::run(c);
     let c = inverse::run(c);
     let c = rotations::run(c);
+    let c = engine_cases::run(c);
     c.print();
 }

@@ -5,7 +5,7 @@ use mathlib.Core.Path.{_≡_}
 use mathlib.Core.Bool.{Bool, true, false, _&&_}
 use mathlib.Core.List.{List, [], _∷_}
 use lib.Dec.{T}
-use lib.Ieee.{Float, eq}
+use lib.Ieee.{Float, binary64, eq, ofInt}
 use Rattle.vector.specs.Refusals.{Outcome, given, refused}
 use Rattle.vector.specs.Vectors.{ofEntries3}
 use Rattle.matrix.specs.Records.{array2, array3, array4, ofArray2, ofArray3, ofArray4}
@@ -13,6 +13,8 @@ use Rattle.matrix.specs.Places as places
 use Rattle.matrix.specs.Arithmetic.{mul2}
 use Rattle.matrix.specs.Inverse.{det2, det3, det4, invert2, invert3, invert4}
 use Rattle.matrix.specs.Rotations.{fromAxisAngle3}
+use Rattle.engine.specs.Whole.{floats2}
+use Rattle.engine.specs.Engine.{signedSum}
 
 -- columns of numbers
 abbrev pub Columns : Type 0
@@ -25,6 +27,7 @@ pub data Operation : Type 0 where
   times2 : Columns → Columns → Operation
   axisAngle3 : List Float → Float → Float → Operation
   swapRows2 swapColumns2 : Columns → ℕ → ℕ → Operation
+  signedSum2 : Columns → Operation
 
 -- what is expected: these columns, the sign of a zero included; these columns numerically; or the refusal of this number
 pub data Expected : Type 0 where
@@ -37,13 +40,13 @@ pub record Case : Type 0 where
   pub operation : Operation
   pub expected : Expected
 
--- ---- what an operation answers, by the definitions that the promises of `matrix` cite
+-- ---- what an operation answers, by the definitions that the promises of `matrix` and `engine` cite
 
 -- a number as one column of one number
 abbrev pub single : Float → Columns
 single x = (x ∷ []) ∷ []
 
--- an outcome's matrix as columns
+-- an outcome's values as columns
 abbrev pub columns : {M : Type 0} → (M → Columns) → Outcome M → Outcome Columns
 columns array (given m) = given (array m)
 columns array (refused n) = refused n
@@ -59,6 +62,7 @@ answer (invert4of m) = columns array4 (invert4 (ofArray4 m))
 answer (times2 a b) = given (array2 (mul2 (ofArray2 a) (ofArray2 b)))
 answer (axisAngle3 axis s c) = given (array3 (fromAxisAngle3 (ofEntries3 axis) s c))
 answer (swapRows2 m a b) = columns array2 (places.swapRows2 (ofArray2 m) (record { 0 = a }) (record { 0 = b }))
+answer (signedSum2 m) = columns (λ z. single (ofInt binary64 z)) (signedSum 2 (floats2 (ofArray2 m)))
 answer (swapColumns2 m a b) = columns array2 (places.swapColumns2 (ofArray2 m) (record { 0 = a }) (record { 0 = b }))
 
 -- ---- the one claim

@@ -1,11 +1,11 @@
--- Document 01, 'Reference cases, both sides of each edge': R1 to R11 as data, columns in brackets.
+-- Document 01, 'Reference cases, both sides of each edge': R1 to R12 as data, columns in brackets.
 -- Exact, the sign of zero included, but for the inverses of R6 and R10, which are numerical; a NaN in R5. Assumes nothing.
 use Prim.Native.Nat.{ℕ}
 use mathlib.Core.Bool.{true, false}
 use mathlib.Core.List.{List, [], _∷_}
 use lib.IntN.{pos, negsuc, negℤ}
 use lib.Ieee.{Float, nan, fin, binary64, ofInt}
-use Rattle.reference.specs.Cases.{Columns, Operation, determinant2, determinant3, determinant4, invert2of, invert3of, invert4of, times2, axisAngle3, swapRows2, swapColumns2, Expected, exactly, numerically, refusal, Case, single}
+use Rattle.reference.specs.Cases.{Columns, Operation, determinant2, determinant3, determinant4, invert2of, invert3of, invert4of, times2, axisAngle3, swapRows2, swapColumns2, signedSum2, Expected, exactly, numerically, refusal, Case, single}
 
 -- ---- numbers
 
@@ -75,7 +75,7 @@ m10 =
 abbrev pub case : ℕ → Operation → Expected → Case
 case n operation expected = record { label = n; operation = operation; expected = expected }
 
--- R1 to R11
+-- R1 to R12
 abbrev pub table : List Case
 table =
     case 1 (determinant2 m1) (exactly (single (whole 1)))
@@ -95,4 +95,7 @@ table =
     ∷ case 10 (invert4of m10) (numerically (of4 (of4 half (whole 0) (whole 0) (whole 0)) (of4 (whole 0) half (whole 0) (whole 0)) (of4 (whole 0) (whole 0) half (whole 0)) (of4 (negative 2) (negative 3) (negative 4) (whole 1))))
     ∷ case 11 (swapRows2 m1 1 1) (exactly m1)
     ∷ case 11 (swapColumns2 m1 5 5) (refusal 1)
+    ∷ case 12 (signedSum2 (of2 (of2 (whole 1024) minusZero) (of2 (whole 0) (whole 1)))) (exactly (single (whole 1024)))
+    ∷ case 12 (signedSum2 (of2 (of2 (whole 1025) (whole 0)) (of2 (whole 0) (whole 1)))) (refusal 6)
+    ∷ case 12 (signedSum2 (of2 (of2 half (whole 0)) (of2 (whole 0) (whole 1)))) (refusal 6)
     ∷ []

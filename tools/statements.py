@@ -1,0 +1,60 @@
+#!/usr/bin/env python3
+"""Fails where a statement that stands in specs/ has no proof of that very type, or docs/PROMISES.md doesn't name the proof.
+
+Usage: tools/statements.py
+
+A statement is a type of specs/ that is there to be proved: those of demand 3 (every line of it is a field of the record
+`Demand`, which `AtOrder2`, `AtOrder3` and `AtOrder4` name with their limits) and the claims beside the promises.
+The gate checks the proofs; this script checks that none is missing.
+"""
+import glob
+import re
+import sys
+
+DEMAND = "crates/engine/specs/Demand.antt"
+STATEMENTS = {
+    "engine": ["AtOrder2", "AtOrder3", "AtOrder4", "TableHolds", "HoldsAll", "OneBitIsPower", "CofactorsOverSum"],
+    "whole": ["ListsOrders", "ZeroExactlyIf"],
+    "reference": ["Claims"],
+}
+
+
+def read(path):
+    return open(path, encoding="utf-8").read()
+
+
+def main():
+    promises, bad = read("docs/PROMISES.md"), []
+    # every line of demand 3 is a field of the record that the orders name
+    text = read(DEMAND)
+    lines = re.findall(r"^abbrev pub (\w+) : .*Port.*→ Type 0$", text, re.M)
+    fields = re.findall(r"^  pub [\w-]+ : (\w+) p", text[text.index("pub record Demand") :], re.M)
+    words = ["WholeEntries", "SameMatrix", "SameVector", "WholeVector"]
+    for name in lines:
+        if name not in fields and name not in words:
+            bad.append(f"{DEMAND}: {name} is no field of Demand")
+    # each statement has a proof of its type, and the promises name it
+    for crate, names in STATEMENTS.items():
+        specs = "\n".join(read(p) for p in glob.glob(f"crates/{crate}/specs/*.antt"))
+        proofs = {p: read(p) for p in glob.glob(f"crates/{crate}/proofs/*.antt")}
+        for name in names:
+            if not re.search(r"^(?:abbrev |unfoldable )?pub (?:record )?%s\b" % name, specs, re.M):
+                bad.append(f"{crate}: no statement {name} in specs/")
+                continue
+            found = [
+                (m.group(1), p)
+                for p, t in proofs.items()
+                for m in re.finditer(r"^pub ([\w-]+) : (?:.*→ )?%s\b[^→]*$" % name, t, re.M)
+            ]
+            if not found:
+                bad.append(f"{crate}: {name} has no proof")
+            for proof, path in found:
+                print(f"{crate} {name}: {proof} in {path}")
+                if f"`{proof}`" not in promises:
+                    bad.append(f"docs/PROMISES.md doesn't name {proof}")
+    for line in bad:
+        print("MISSING:", line)
+    sys.exit(1 if bad else 0)
+
+
+main()
