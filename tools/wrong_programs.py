@@ -84,7 +84,7 @@ WRONG = {
         "undoable.rt undoable{234}": [("of the identity", "(m)", "(Matrix{n}::IDENTITY)"), ("of zero", "(m)", "(Matrix{n}::ZERO)")],
         "undoable.rt one_bit": [("yes at zero", "== 1", "<= 1"), ("two bits", "== 1", "== 2")],
         "cofactors.rt cofactor{234}": [("the range test at another order", "{n}, c, r", "{n} - 1, c, r"), ("column and row exchanged", "c, r)", "Column(r.0), Row(c.0))")],
-        "cofactors.rt cofactor_answer": [("the place tested after the entries' refusal", "Refusal::OutOfRange", "Refusal::NotWhole"), ("another place", "c.0, r.0)", "r.0, c.0)")],
+        "cofactors.rt cofactor_answer": [("another refusal for the place", "Refusal::OutOfRange", "Refusal::NotWhole"), ("another place", "c.0, r.0)", "r.0, c.0)")],
     },
 }
 
