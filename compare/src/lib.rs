@@ -2,7 +2,9 @@
 
 pub mod classes;
 pub mod entries;
+pub mod exact;
 pub mod list;
 pub mod operations;
 pub mod random;
 pub mod second;
+pub mod whole;

@@ -18,6 +18,7 @@ pub enum Word {
 #[derive(Clone)]
 pub enum Answer {
     Given(Vec<f64>),
+    Number(i64),
     Refused(u64),
 }
 
@@ -35,7 +36,7 @@ pub fn inverse(answer: Option<impl Entries>) -> Answer {
 #[derive(Default)]
 pub struct List {
     pub text: String,
-    random: Random,
+    pub random: Random,
 }
 
 impl List {
@@ -62,6 +63,7 @@ impl List {
                     self.text += &pattern(if entry.is_nan() { f64::from_bits(0x7ff8 << 48) } else { *entry });
                 }
             }
+            Answer::Number(number) => write!(self.text, " = @{number:x}").unwrap(),
             Answer::Refused(number) => write!(self.text, " ! @{number:x}").unwrap(),
         }
         self.text.push('\n');
@@ -173,7 +175,7 @@ fn pattern(x: f64) -> String {
 }
 
 /// Numbers as words.
-fn numbers(x: &[f64]) -> Vec<Word> {
+pub fn numbers(x: &[f64]) -> Vec<Word> {
     x.iter().map(|x| Word::Number(*x)).collect()
 }
 
@@ -199,6 +201,7 @@ fn same(a: &Answer, b: &Answer) -> bool {
         (Answer::Given(a), Answer::Given(b)) => {
             a.len() == b.len() && a.iter().zip(b).all(|(a, b)| a.to_bits() == b.to_bits() || (a.is_nan() && b.is_nan()))
         }
+        (Answer::Number(a), Answer::Number(b)) => a == b,
         (Answer::Refused(a), Answer::Refused(b)) => a == b,
         _ => false,
     }

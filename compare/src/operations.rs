@@ -4,6 +4,7 @@ use crate::classes::Shape;
 use crate::entries::Take;
 use crate::list::{given, inverse, Answer, List, Word};
 use crate::second;
+use crate::whole;
 use cgmath::prelude::*;
 use cgmath::{Matrix2, Matrix3, Matrix4, Vector2, Vector3, Vector4};
 
@@ -149,7 +150,14 @@ fn planted(list: &mut List) {
     list.line("planted", 2, "whole", &words, &Answer::Given(vec![2.0]));
 }
 
-/// Every line of the list.
+/// The exact engine's lines, and cgmath's determinant of the same matrices.
+fn wholes(list: &mut List) {
+    whole::order(list, 2, |x| Matrix2::<f64>::take(x).determinant());
+    whole::order(list, 3, |x| Matrix3::<f64>::take(x).determinant());
+    whole::order(list, 4, |x| Matrix4::<f64>::take(x).determinant());
+}
+
+/// Every line of the list. New ones stand at the end, so that the inputs of the others stay as they are.
 pub fn all(list: &mut List) {
     order2(list);
     order3(list);
@@ -158,4 +166,5 @@ pub fn all(list: &mut List) {
     builders(list);
     rotations(list);
     planted(list);
+    wholes(list);
 }

@@ -19,9 +19,11 @@ The answers of cgmath 0.18.0's src/matrix.rs, written by compare/ (its README.md
 A line: operation, order, class of input, the words it reads, then '=' and the entries of the answer,
 or '!' and the number of the refusal. Matrices stand column by column.
 A word is the hexadecimal bit pattern of an f64 without the zeros at its end: 3ff is 1.0, 4 is 2.0, 8 is -0.0.
-'@' stands before a place and before a refusal's number, which are plain hexadecimal numbers.
+'@' stands before a place, a refusal's number and a whole number that is answered, which are plain hexadecimal
+numbers; a whole number is an i64's two's complement: @5 is 5, @fffffffffffffffb is -5, and of yes or no @1 is yes.
 Every NaN that is answered is written 7ff8. A panic is refusal 1, and None is refusal 2.
 Where the class ends with '*' the answer is not cgmath's but a second computation's.
+So are signed_sum, undoable and cofactor, by an expansion along rows in i128.
 A rotation reads a sine, a cosine, and the axis if it has one; without '*' they are those of an angle.
 Dot, cross, truncate_n and the sums of vectors are those of the cgmath that compare/ was built with:
 the list settles nothing about them where that was not the published crate.

@@ -1,5 +1,7 @@
 // What an operation answers: the bit patterns of its entries, or the number of a refusal.
 use bits::pattern;
+use engine::NumberAnswer;
+use engine::UndoableAnswer;
 use matrix::Matrix2;
 use matrix::Matrix2Answer;
 use matrix::Matrix3;
@@ -16,6 +18,15 @@ use vector::Vector4Answer;
 
 // What stands for a refusal's number where there is no such operation of this order.
 pub const UNKNOWN: u64 = 255;
+
+// The bits of a whole number: its two's complement.
+fn complement(z: i64) -> u64 {
+    if z < 0 {
+        0xffff_ffff_ffff_ffff - ((-1 - z) as u64)
+    } else {
+        z as u64
+    }
+}
 
 // A refusal's number, or 0; how many entries there are; their patterns, and 0 behind the last.
 pub struct Answer {
@@ -57,6 +68,13 @@ impl Answer {
     pub(crate) fn number(x: f64) -> Answer {
         let mut entries = [0u64; 16];
         entries[0] = pattern(x);
+        Answer::given(1, entries)
+    }
+
+    // One whole number, in two's complement.
+    fn whole(z: i64) -> Answer {
+        let mut entries = [0u64; 16];
+        entries[0] = complement(z);
         Answer::given(1, entries)
     }
 
@@ -182,6 +200,22 @@ impl Answer {
         match answer {
             Matrix4Answer::Given(m) => Answer::matrix4(m),
             Matrix4Answer::Refused(cause) => Answer::cause(cause),
+        }
+    }
+
+    // A whole number or a refusal.
+    pub(crate) fn of_number(answer: NumberAnswer) -> Answer {
+        match answer {
+            NumberAnswer::Given(z) => Answer::whole(z),
+            NumberAnswer::Refused(cause) => Answer::cause(cause),
+        }
+    }
+
+    // Yes as 1 and no as 0, or a refusal.
+    pub(crate) fn of_undoable(answer: UndoableAnswer) -> Answer {
+        match answer {
+            UndoableAnswer::Given(yes) => Answer::whole(if yes { 1 } else { 0 }),
+            UndoableAnswer::Refused(cause) => Answer::cause(cause),
         }
     }
 

@@ -10,6 +10,7 @@ use crate::list::words;
 use crate::places;
 use crate::rotations;
 use crate::table::ADD;
+use crate::table::COFACTOR;
 use crate::table::COUNT;
 use crate::table::DETERMINANT;
 use crate::table::FROM_ANGLE;
@@ -19,12 +20,14 @@ use crate::table::INVERT;
 use crate::table::MUL_VECTOR;
 use crate::table::PLANTED;
 use crate::table::ROW;
+use crate::table::SIGNED_SUM;
 use crate::table::SWAP_ELEMENTS;
 use crate::table::VECTOR_ADD;
 use crate::table::VECTOR_TRUNCATE_N;
 use crate::table::ZERO;
 use crate::table::reads;
 use crate::vectors;
+use crate::whole;
 use crate::words::ROOM;
 
 // What a line comes to: its operation and order, and whether the two answers are the same.
@@ -81,6 +84,7 @@ fn order2(operation: usize, words: &[u64; ROOM]) -> Answer {
         ADD..=MUL_VECTOR => arithmetic::order2(operation, words),
         DETERMINANT | INVERT | PLANTED => inverse::order2(operation, words),
         FROM_ANGLE..=FROM_AXIS_ANGLE => rotations::order2(operation, words),
+        SIGNED_SUM..=COFACTOR => whole::order2(operation, words),
         _ => Answer::unknown(),
     }
 }
@@ -94,6 +98,7 @@ fn order3(operation: usize, words: &[u64; ROOM]) -> Answer {
         ADD..=MUL_VECTOR => arithmetic::order3(operation, words),
         DETERMINANT | INVERT => inverse::order3(operation, words),
         FROM_ANGLE..=FROM_AXIS_ANGLE => rotations::order3(operation, words),
+        SIGNED_SUM..=COFACTOR => whole::order3(operation, words),
         _ => Answer::unknown(),
     }
 }
@@ -107,6 +112,7 @@ fn order4(operation: usize, words: &[u64; ROOM]) -> Answer {
         ADD..=MUL_VECTOR => arithmetic::order4(operation, words),
         DETERMINANT | INVERT => inverse::order4(operation, words),
         FROM_ANGLE..=FROM_AXIS_ANGLE => rotations::order4(operation, words),
+        SIGNED_SUM..=COFACTOR => whole::order4(operation, words),
         _ => Answer::unknown(),
     }
 }

@@ -106,7 +106,8 @@ fn hexadecimal(digits: &[u8]) -> Reading {
     Reading::Value(value)
 }
 
-// What a word states: a place behind '@', or a pattern whose last digits are left out where they are 0.
+// What a word states: a place or a whole number behind '@', or a pattern whose last digits are left out where
+// they are 0, each NaN's as the same one.
 fn stated(word: &[u8]) -> Reading {
     if word.len() == 0 {
         return Reading::Nothing;
@@ -118,7 +119,7 @@ fn stated(word: &[u8]) -> Reading {
         return Reading::Nothing;
     }
     match hexadecimal(word) {
-        Reading::Value(value) => Reading::Value(value << (64 - 4 * (word.len() as u32))),
+        Reading::Value(value) => Reading::Value(canonical(value << (64 - 4 * (word.len() as u32)))),
         Reading::Nothing => Reading::Nothing,
     }
 }
@@ -233,12 +234,12 @@ fn refused(run: Run) -> Ending {
     }
 }
 
-// The first sixteen words, each NaN as the same one.
+// The first sixteen words.
 fn entries(values: [u64; ROOM]) -> [u64; 16] {
     let mut out = [0u64; 16];
     let mut i = 0;
     while i < 16 {
-        out[i] = canonical(values[i]);
+        out[i] = values[i];
         i += 1;
     }
     out

@@ -12,6 +12,7 @@ mod rotations;
 mod table;
 mod tally;
 mod vectors;
+mod whole;
 mod words;
 
 use libc::STDIN_FILENO;

@@ -128,11 +128,20 @@ pub const FROM_ANGLE_Z: usize = 40;
 // A rotation around an axis, which is read last.
 pub const FROM_AXIS_ANGLE: usize = 41;
 
+// The signed sum; the exact engine begins here.
+pub const SIGNED_SUM: usize = 42;
+
+// Whether the signed sum is undoable.
+pub const UNDOABLE: usize = 43;
+
+// The cofactor of a place, its column and then its row.
+pub const COFACTOR: usize = 44;
+
 // A determinant whose line states a wrong answer on purpose: it has to be counted as different. The last number.
-pub const PLANTED: usize = 42;
+pub const PLANTED: usize = 45;
 
 // How many operations there are.
-pub const COUNT: usize = 43;
+pub const COUNT: usize = 46;
 
 // The longest name's length.
 pub const WIDTH: usize = 21;
@@ -181,6 +190,9 @@ const NAMES: [[u8; WIDTH]; COUNT] = [
     *b"from_angle_y         ",
     *b"from_angle_z         ",
     *b"from_axis_angle      ",
+    *b"signed_sum           ",
+    *b"undoable             ",
+    *b"cofactor             ",
     *b"planted              ",
 ];
 
@@ -234,7 +246,7 @@ pub(crate) fn reads(operation: usize, order: usize) -> usize {
         VECTOR_SCALAR_MUL | VECTOR_DIV_SCALAR | VECTOR_TRUNCATE_N => length + 1,
         VECTOR_ADD | VECTOR_SUB | VECTOR_DOT | VECTOR_CROSS => length + length,
         ROW | SCALAR_MUL | SCALAR_DIV | MUL_SCALAR | DIV_SCALAR => square + 1,
-        SWAP_ROWS | SWAP_COLUMNS => square + 2,
+        SWAP_ROWS | SWAP_COLUMNS | COFACTOR => square + 2,
         SWAP_ELEMENTS => square + 4,
         MUL_VECTOR => square + length,
         ADD | SUB | MUL => square + square,

@@ -15,17 +15,14 @@ abbrev μ-loop : tie.MeasureT-loop
 loop-holds : tie.Need-loop-holds Inv-loop μ-loop
 loop-holds c = search needs
 
-mul-canonical : tie.Need-mul-canonical Inv-loop μ-loop
-mul-canonical c = search needs
-
-array-read-canonical : tie.Need-array-read-canonical Inv-loop μ-loop
-array-read-canonical c = search needs
-
-canonical-requires : tie.Need-canonical-requires Inv-loop μ-loop
-canonical-requires c κs = search needs
-
 mul-out : tie.Need-mul-out Inv-loop μ-loop
 mul-out c = search needs
+
+array-read-out : tie.Need-array-read-out Inv-loop μ-loop
+array-read-out c = search needs
+
+mul-out-2 : tie.Need-mul-out-2 Inv-loop μ-loop
+mul-out-2 c = search needs
 
 array-write-out : tie.Need-array-write-out Inv-loop μ-loop
 array-write-out c = search needs
@@ -49,10 +46,9 @@ entries-spec =
     Inv-loop
     μ-loop
     loop-holds
-    mul-canonical
-    array-read-canonical
-    canonical-requires
     mul-out
+    array-read-out
+    mul-out-2
     array-write-out
     add-i
     loop-less
