@@ -1,9 +1,10 @@
-// Runs one call of every public function of `vector` and `matrix`, and document 01's case that is run only.
+// Runs one call of every public function of `vector` and `matrix`, bulk moves, and document 01's cases that are run only.
 // Expected values come from document 01 or are worked out by hand, on numbers where every step is exact.
 mod arithmetic;
 mod count;
 mod engine_cases;
 mod inverse;
+mod moves;
 mod places;
 mod records;
 mod rotations;
@@ -20,5 +21,6 @@ fn main() {
     let c = inverse::run(c);
     let c = rotations::run(c);
     let c = engine_cases::run(c);
+    let c = moves::run(c);
     c.print();
 }

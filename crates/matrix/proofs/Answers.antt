@@ -1,8 +1,11 @@
--- An answer that gives a matrix or refuses is fixed by what it means: so a promise on the meaning leaves nothing loose.
+-- An answer that gives a matrix, or says done, or refuses is fixed by what it means: so a promise on the meaning leaves nothing loose.
 -- Assumes nothing.
 use mathlib.Core.Path.{_≡_, refl, ap}
 use Rattle.vector.proofs.Answers.{answerOf, cause-number, one-meaning}
 use Rattle.matrix.specs.Records.{matrix2Outcome, matrix3Outcome, matrix4Outcome}
+use Rattle.matrix.specs.InPlace.{swappedOutcome}
+use Rattle.matrix.specs.declared.in_place.Swapped.{Swapped}
+use Rattle.matrix.specs.declared.in_place.Swapped.the-variants as swapped
 use Rattle.matrix.specs.declared.records.Matrix2Answer.{Matrix2Answer}
 use Rattle.matrix.specs.declared.records.Matrix3Answer.{Matrix3Answer}
 use Rattle.matrix.specs.declared.records.Matrix4Answer.{Matrix4Answer}
@@ -28,3 +31,9 @@ matrix4-one = one-meaning matrix4Outcome (answerOf answer4.Given answer4.Refused
   there : (a : Matrix4Answer) → answerOf answer4.Given answer4.Refused (matrix4Outcome a) ≡ a
   there (answer4.Given m) = refl
   there (answer4.Refused r) = ap answer4.Refused (cause-number r)
+
+pub swapped-one : (a b : Swapped) → swappedOutcome a ≡ swappedOutcome b → a ≡ b
+swapped-one = one-meaning swappedOutcome (answerOf (λ _. swapped.Done) swapped.Refused) there where
+  there : (a : Swapped) → answerOf (λ _. swapped.Done) swapped.Refused (swappedOutcome a) ≡ a
+  there swapped.Done = refl
+  there (swapped.Refused r) = ap swapped.Refused (cause-number r)

@@ -1,5 +1,6 @@
 pub mod Records
 pub mod Places
+pub mod InPlace
 pub mod Arithmetic
 pub mod Inverse
 pub mod Rotations

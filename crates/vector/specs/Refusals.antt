@@ -38,6 +38,16 @@ abbrev pub after : {A : Type 0} → Outcome Unit → Outcome A → Outcome A
 after (given _) outcome = outcome
 after (refused n) outcome = refused n
 
+-- the answer of an entry that writes to what is lent: done, or the refusal
+abbrev pub done : {A : Type 0} → Outcome A → Outcome Unit
+done (given _) = given tt
+done (refused n) = refused n
+
+-- what is lent at the end: the values given, or where refused what stood there before
+abbrev pub leaves : {A : Type 0} → A → Outcome A → A
+leaves before (given a) = a
+leaves before (refused n) = before
+
 -- refusal 1 unless the number is below the order or the length
 unfoldable pub belowLimit : ℕ → ℕ → Outcome Unit
 belowLimit limit n = cond (ltb n limit) (given tt) (refusedFor OutOfRange)
