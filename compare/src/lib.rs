@@ -1,5 +1,6 @@
 //! Makes the list of cgmath's answers that `crates/replay` replays: see README.md.
 
+pub mod bulk;
 pub mod classes;
 pub mod entries;
 pub mod exact;

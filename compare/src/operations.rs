@@ -1,5 +1,6 @@
 //! The operations of the list, each asked of cgmath by its public name.
 
+use crate::bulk;
 use crate::classes::Shape;
 use crate::entries::Take;
 use crate::list::{given, inverse, Answer, List, Word};
@@ -167,4 +168,5 @@ pub fn all(list: &mut List) {
     rotations(list);
     planted(list);
     wholes(list);
+    bulk::all(list);
 }

@@ -14,7 +14,7 @@ enum Kind {
     Medium,
     /// From -1024 to 1024.
     Large,
-    /// 1024 and -1024, in every other matrix with the numbers beside them and a few others.
+    /// 1024 and -1024, in about half of the matrices with the numbers beside them and a few others.
     Limit,
     /// Zeros, and a few ones.
     Zeros,

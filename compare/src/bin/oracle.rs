@@ -24,6 +24,9 @@ numbers; a whole number is an i64's two's complement: @5 is 5, @fffffffffffffffb
 Every NaN that is answered is written 7ff8. A panic is refusal 1, and None is refusal 2.
 Where the class ends with '*' the answer is not cgmath's but a second computation's.
 So are signed_sum, undoable and cofactor, by an expansion along rows in i128.
+So are the refused bulk moves, by the table of refusals.
+A bulk move reads the order that is handed over and the lengths of the matrix, the input and the output, then the
+numbers of the matrix and of the input. Its answer is the output; where it is refused the output stays as it was.
 A rotation reads a sine, a cosine, and the axis if it has one; without '*' they are those of an angle.
 Dot, cross, truncate_n and the sums of vectors are those of the cgmath that compare/ was built with:
 the list settles nothing about them where that was not the published crate.

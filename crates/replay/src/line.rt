@@ -1,12 +1,16 @@
 // One line of the list: our function does what the line names, and its answer is compared.
+ghost use Prim.Native.Nat.{_≤_};
+ghost use lib.ListN.{length};
 use crate::answer::Answer;
 use crate::answer::UNKNOWN;
 use crate::arithmetic;
 use crate::builders;
 use crate::inverse;
+use crate::list::Beginning;
 use crate::list::expected;
 use crate::list::head;
 use crate::list::words;
+use crate::moves;
 use crate::places;
 use crate::rotations;
 use crate::table::ADD;
@@ -17,6 +21,8 @@ use crate::table::FROM_ANGLE;
 use crate::table::FROM_AXIS_ANGLE;
 use crate::table::FROM_MATRIX3;
 use crate::table::INVERT;
+use crate::table::MOVE_POINTS;
+use crate::table::MOVE_VECTORS;
 use crate::table::MUL_VECTOR;
 use crate::table::PLANTED;
 use crate::table::ROW;
@@ -41,6 +47,17 @@ pub enum Outcome {
 // What the line comes to.
 pub(crate) fn replayed(line: &[u8]) -> Outcome {
     let head = head(line);
+    let operation = head.operation;
+    match operation {
+        MOVE_VECTORS | MOVE_POINTS => moves::replayed(line, head),
+        _ => single(line, head),
+    }
+}
+
+// What a line of one operation comes to.
+fn single(line: &[u8], head: Beginning) -> Outcome
+    requires { ⌜ head .next ≤ length (now line) ⌝ }
+{
     let run = words(line, head.next);
     let stated = expected(line, run.next);
     if !stated.read {

@@ -20,6 +20,19 @@ pub struct Run {
     pub values: [u64; ROOM],
 }
 
+// What a word states, if it states anything, and where the next one starts.
+pub struct Step {
+    pub read: bool,
+    pub value: u64,
+    pub next: usize,
+}
+
+// The sign in front of an answer, or 0, and where the answer starts.
+pub struct Sign {
+    pub value: u8,
+    pub next: usize,
+}
+
 // How a line begins: the operation's number, its order, and where the words that it reads start.
 pub struct Beginning {
     pub operation: usize,
@@ -152,6 +165,26 @@ pub(crate) fn words(line: &[u8], from: usize) -> Run
     }
 }
 
+// The word at `from`.
+pub(crate) fn next_word(line: &[u8], from: usize) -> Step
+    requires { ⌜ from ≤ length (now line) ⌝ }
+    ensures { λ r. ⌜ r .next ≤ length (now (line .entry)) ⌝ }
+{
+    let end = word_end(line, from);
+    match stated(&line[from..end]) {
+        Reading::Value(value) => Step {
+            read: true,
+            value,
+            next: after(line, end),
+        },
+        Reading::Nothing => Step {
+            read: false,
+            value: 0,
+            next: from,
+        },
+    }
+}
+
 // How a line begins.
 pub(crate) fn head(line: &[u8]) -> Beginning
     ensures { λ r. ⌜ r .next ≤ length (now (line .entry)) ⌝ }
@@ -185,21 +218,40 @@ fn order(word: &[u8]) -> usize {
 pub(crate) fn expected(line: &[u8], from: usize) -> Ending
     requires { ⌜ from ≤ length (now line) ⌝ }
 {
-    if from == line.len() {
-        return unreadable();
-    }
-    let end = word_end(line, from);
-    if end != from + 1 {
-        return unreadable();
-    }
-    let run = words(line, after(line, end));
+    let sign = sign_at(line, from);
+    let run = words(line, sign.next);
     if run.next != line.len() {
         return unreadable();
     }
-    match line[from] {
+    let value = sign.value;
+    match value {
         b'=' => given(run),
         b'!' => refused(run),
         _ => unreadable(),
+    }
+}
+
+// The sign at `from`: a word of one letter.
+pub(crate) fn sign_at(line: &[u8], from: usize) -> Sign
+    requires { ⌜ from ≤ length (now line) ⌝ }
+    ensures { λ r. ⌜ r .next ≤ length (now (line .entry)) ⌝ }
+{
+    if from == line.len() {
+        return Sign {
+            value: 0,
+            next: from,
+        };
+    }
+    let end = word_end(line, from);
+    if end != from + 1 {
+        return Sign {
+            value: 0,
+            next: from,
+        };
+    }
+    Sign {
+        value: line[from],
+        next: after(line, end),
     }
 }
 

@@ -6,6 +6,7 @@ mod builders;
 mod inverse;
 mod line;
 mod list;
+mod moves;
 mod places;
 mod report;
 mod rotations;

@@ -1,5 +1,6 @@
 // The operations of the list: the number of each, its name, and how many words it reads.
 // A new operation is a number, a name at that number, an arm of `reads`, and an arm in the file of its group.
+// The bulk moves read as many numbers as their lines say: they are in moves.rt alone.
 ghost use Prim.Native.Nat.{_<_};
 
 // The sum of two vectors of the order's length.
@@ -137,11 +138,17 @@ pub const UNDOABLE: usize = 43;
 // The cofactor of a place, its column and then its row.
 pub const COFACTOR: usize = 44;
 
+// Vectors moved in bulk; the bulk moves begin here, and read lines of their own.
+pub const MOVE_VECTORS: usize = 45;
+
+// Points moved in bulk.
+pub const MOVE_POINTS: usize = 46;
+
 // A determinant whose line states a wrong answer on purpose: it has to be counted as different. The last number.
-pub const PLANTED: usize = 45;
+pub const PLANTED: usize = 47;
 
 // How many operations there are.
-pub const COUNT: usize = 46;
+pub const COUNT: usize = 48;
 
 // The longest name's length.
 pub const WIDTH: usize = 21;
@@ -193,6 +200,8 @@ const NAMES: [[u8; WIDTH]; COUNT] = [
     *b"signed_sum           ",
     *b"undoable             ",
     *b"cofactor             ",
+    *b"move_vectors         ",
+    *b"move_points          ",
     *b"planted              ",
 ];
 

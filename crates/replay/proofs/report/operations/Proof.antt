@@ -5,10 +5,10 @@ use Rattle.replay.proofs.report.operations.Statement.{statement}
 use Rattle.replay.proofs.report.operations.Tie as tie
 
 abbrev Inv-loop : tie.InvT-loop
-Inv-loop tally operation₀ operation = operation ≤ 45
+Inv-loop tally operation₀ operation = operation ≤ 47
 
 abbrev μ-loop : tie.MeasureT-loop
-μ-loop tally operation₀ operation = 45 - operation
+μ-loop tally operation₀ operation = 47 - operation
 
 loop-holds : tie.Need-loop-holds Inv-loop μ-loop
 loop-holds c = search needs

@@ -5,10 +5,10 @@ use Rattle.replay.proofs.table.find.Statement.{statement}
 use Rattle.replay.proofs.table.find.Tie as tie
 
 abbrev Inv-loop : tie.InvT-loop
-Inv-loop word operation₀ operation = operation ≤ 46
+Inv-loop word operation₀ operation = operation ≤ 48
 
 abbrev μ-loop : tie.MeasureT-loop
-μ-loop word operation₀ operation = 46 - operation
+μ-loop word operation₀ operation = 48 - operation
 
 loop-holds : tie.Need-loop-holds Inv-loop μ-loop
 loop-holds c = search needs

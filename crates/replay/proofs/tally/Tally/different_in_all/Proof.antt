@@ -5,10 +5,10 @@ use Rattle.replay.proofs.tally.Tally.different_in_all.Statement.{statem
 use Rattle.replay.proofs.tally.Tally.different_in_all.Tie as tie
 
 abbrev Inv-loop : tie.InvT-loop
-Inv-loop self sum₀ operation₀ sum operation = operation ≤ 45
+Inv-loop self sum₀ operation₀ sum operation = operation ≤ 47
 
 abbrev μ-loop : tie.MeasureT-loop
-μ-loop self sum₀ operation₀ sum operation = 45 - operation
+μ-loop self sum₀ operation₀ sum operation = 47 - operation
 
 loop-holds : tie.Need-loop-holds Inv-loop μ-loop
 loop-holds c = search needs
