@@ -1,15 +1,15 @@
 -- A flat list by groups of n numbers, for any n: how numbers are read and written there, the loop that makes each group over,
 -- and what then stands at each group. Assumes nothing.
 use mathlib.Core.Path.{_≡_, refl, sym, ap, _∙_}
-use mathlib.Core.List.{List, [], _∷_, _++_, append-assoc, append-nil, flatMap}
+use mathlib.Core.List.{List, [], _++_, append-assoc, append-nil, flatMap}
 use Prim.Native.Nat.{ℕ, zero, suc, _+_, _*_, _/_, _%_, _<_, _≤_}
 use native.Mathlib.Nat.{add-zero, add-div-left, div-add-mod', zero-div, zero-mod, add-mod-right, suc-mul, zero-mul, add-comm}
 use native.Mathlib.Numerals.{add-one}
 use native.Mathlib.Omega.{arith}
 use lib.Ieee.{Float, nan}
 use lib.Dec.{lit<}
-use lib.ListN.{length, take, drop, getD, length-append, length-drop, drop-of-length-le}
-use lib.Seq.{getD-take, getD-drop, drop-drop, take-all, take-at, take-append-seam, drop-append-add, length-take-le, sets, sets-eq, length-sets}
+use lib.ListN.{length, take, drop, length-append, length-drop, drop-of-length-le}
+use lib.Seq.{getD-take, getD-drop, drop-drop, take-all, take-at, drop-append-add, length-take-le, sets, sets-eq, length-sets}
 use Rattle.vector.specs.Vectors.{vector2, vector3, vector4, entry, ofEntries2, ofEntries3, ofEntries4}
 use Rattle.vector.specs.declared.Vector2.{Vector2}
 use Rattle.vector.specs.declared.Vector3.{Vector3}

@@ -1,8 +1,8 @@
 -- What the loop of each order leaves is what the definition by the order says; and what a move then leaves, vector by vector
 -- and point by point. Assumes nothing.
-use mathlib.Core.Path.{_≡_, refl, sym, ap, _∙_}
+use mathlib.Core.Path.{_≡_, refl, ap, _∙_}
 use mathlib.Core.List.{List, []}
-use Prim.Native.Nat.{ℕ, zero, suc, _+_, _*_, _-_, _/_, _%_, _<_, _≤_}
+use Prim.Native.Nat.{ℕ, zero, suc, _*_, _-_, _/_, _%_, _<_, _≤_}
 use native.Mathlib.Nat.{zero-mod, sub-zero}
 use native.Mathlib.Omega.{arith}
 use lib.Ieee.{Float}

@@ -1,8 +1,8 @@
 // Bulk moves over lent slices: document 01, module 8.
 // Every outcome of the two entries, and the whole output, equals its definition in specs/; neither relies on its caller.
-pub mod load;
-pub mod points;
-pub mod vectors;
+mod load;
+mod points;
+mod vectors;
 
 ghost use mathlib.Core.Path.{_≡_};
 ghost use Prim.Native.Nat.{_≤_};
