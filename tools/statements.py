@@ -12,10 +12,22 @@ import re
 import sys
 
 DEMAND = "crates/engine/specs/Demand.antt"
+# each statement with the very type that its proof is to have
 STATEMENTS = {
-    "engine": ["AtOrder2", "AtOrder3", "AtOrder4", "TableHolds", "HoldsAll", "OneBitIsPower", "CofactorsOverSum"],
-    "whole": ["ListsOrders", "ZeroExactlyIf"],
-    "reference": ["Claims"],
+    "engine": {
+        "AtOrder2": "AtOrder2",
+        "AtOrder3": "AtOrder3",
+        "AtOrder4": "AtOrder4",
+        "TableHolds": "TableHolds",
+        "HoldsAll": "HoldsAll",
+        "OneBitIsPower": "OneBitIsPower",
+        "CofactorsOverSum": "(n : ℕ) → 0 < n → (m : Matrix) → CofactorsOverSum n m",
+    },
+    "whole": {
+        "ListsOrders": "(n : ℕ) → ListsOrders n (orders n)",
+        "ZeroExactlyIf": "(n : ℕ) (m : Matrix) → ZeroExactlyIf n m",
+    },
+    "reference": {"Claims": "Claims table"},
 }
 
 
@@ -37,14 +49,14 @@ def main():
     for crate, names in STATEMENTS.items():
         specs = "\n".join(read(p) for p in glob.glob(f"crates/{crate}/specs/*.antt"))
         proofs = {p: read(p) for p in glob.glob(f"crates/{crate}/proofs/*.antt")}
-        for name in names:
+        for name, type_ in names.items():
             if not re.search(r"^(?:abbrev |unfoldable )?pub (?:record )?%s\b" % name, specs, re.M):
                 bad.append(f"{crate}: no statement {name} in specs/")
                 continue
             found = [
                 (m.group(1), p)
                 for p, t in proofs.items()
-                for m in re.finditer(r"^pub ([\w-]+) : (?:.*→ )?%s\b[^→]*$" % name, t, re.M)
+                for m in re.finditer(r"^pub ([\w-]+) : %s$" % re.escape(type_), t, re.M)
             ]
             if not found:
                 bad.append(f"{crate}: {name} has no proof")

@@ -98,7 +98,7 @@ pub sum-figure : (m : Matrix4) → WholeEntries port4 1024 m → Known (det4 m) 
 sum-figure = known-sum port4 1024 largest 64 sum4 combine4 dot4 written
 
 -- there and back the same, for a vector entry of 64, times the power of two that is divided by: no scaled partial sum passes 24 * 2 ^ 48
-pub vector-figure : 4 * (largest * (4 * (1024 * 64))) ≡ 24 * 2 ^ 48
+pub vector-figure : bound (beside 4 (λ i. largest) (λ i. bound (beside 4 (λ j. 1024) (λ j. 64)) dot4)) dot4 ≡ 24 * 2 ^ 48
 vector-figure = refl
 
 -- and that is below 2 ^ 53

@@ -202,7 +202,9 @@ by-check false v = (λ e t. t, λ h. refl)
 -- the engine refuses with 6 exactly where an entry is not whole
 pub refused-elsewhere : (p : Port) → RefusedElsewhere p
 unfolding taken
-refused-elsewhere p m = by-check (wholeEntries 1024 (p .order) (p .entries m)) (sumOf p m)
+refused-elsewhere p m =
+    let test = wholeEntries 1024 (p .order) (p .entries m) in
+    (by-check test (sumOf p m), by-check test (oneBit (natAbs (sumOf p m))))
 
 -- a yes after the check
 by-bit : (b t : Bool) → (after (cond b (given tt) (refusedFor NotWhole)) (given t) ≡ given true) ↔ (T b × T t)
@@ -222,6 +224,7 @@ undoable-exactly p m =
 pub demand : (p : Port) (D E : ℕ) (d F G : Formula) → Written p 1024 D E d F G → Demand p 1024 E
 demand p D E d F G w = record {
   meaning = λ m. whole-entries 1024 (p .order) (p .entries m) (w .limit);
+  own-numbers = λ m whole c r h l. held p 1024 D E d F G w m whole c r h l .exact;
   refused-elsewhere = refused-elsewhere p;
   determinant-is-sum = determinant-is-sum p 1024 D E d F G w;
   refused-exactly = refused-exactly p 1024 D E d F G w;

@@ -112,12 +112,17 @@ WholeVector p limit v = (i : ℕ) → i < p .order → Whole limit (p .places v 
 
 -- ---- the demand, for entries and vectors up to their limits
 
--- 0. the words' meaning: each entry's exact value is a whole number of magnitude at most the limit, -0.0 being 0; and the engine refuses with 6 exactly elsewhere
+-- 0. the words' meaning: each entry's exact value is a whole number of magnitude at most the limit, -0.0 being 0
 abbrev pub Meaning : Port → ℕ → Type 0
 Meaning p limit = (m : p .Matrix) → WholeEntries p limit m ↔ ((c r : ℕ) → c < p .order → r < p .order → Whole limit (p .entries m c r))
 
+-- the numbers that the sum is taken of are the entries' own exact values
+abbrev pub OwnNumbers : Port → ℕ → Type 0
+OwnNumbers p limit = (m : p .Matrix) → WholeEntries p limit m → (c r : ℕ) → c < p .order → r < p .order → Exact (p .entries m c r) (numbers (p .entries m) c r) 0
+
+-- at the engine's own limit: no number and no yes or no exactly elsewhere
 abbrev pub RefusedElsewhere : Port → Type 0
-RefusedElsewhere p = (m : p .Matrix) → (signedSum (p .order) (p .entries m) ≡ refused 6) ↔ ¬ WholeEntries p 1024 m
+RefusedElsewhere p = (m : p .Matrix) → ((signedSum (p .order) (p .entries m) ≡ refused 6) ↔ ¬ WholeEntries p 1024 m) × ((undoable (p .order) (p .entries m) ≡ refused 6) ↔ ¬ WholeEntries p 1024 m)
 
 -- 1. "The determinant numerically equals the exact signed sum": it is finite and its exact value is that number
 abbrev pub DeterminantIsSum : Port → ℕ → Type 0
@@ -137,7 +142,7 @@ pub record Undoes (p : Port) (vectors : ℕ) (m i : p .Matrix) : Type 0 where
 abbrev pub InverseUndoes : Port → ℕ → ℕ → Type 0
 InverseUndoes p limit vectors = (m : p .Matrix) → WholeEntries p limit m → PowerOfTwo (sumOf p m) → (i : p .Matrix) × (p .invert m ≡ given i) × Undoes p vectors m i
 
--- 4. the engine's sum agrees with the determinant numerically, and `undoable` says yes exactly where 3 applies
+-- 4. at the engine's own limit: its sum agrees with the determinant numerically, and `undoable` says yes exactly where 3 applies
 abbrev pub SumAgrees : Port → Type 0
 SumAgrees p = (m : p .Matrix) → WholeEntries p 1024 m → (s : ℤ) × (signedSum (p .order) (p .entries m) ≡ given s) × Equal (ofInt binary64 s) (p .determinant m)
 
@@ -151,6 +156,7 @@ ZeroExactly p limit = (m : p .Matrix) → WholeEntries p limit m → ZeroExactly
 -- all of it
 pub record Demand (p : Port) (limit vectors : ℕ) : Type 0 where
   pub meaning : Meaning p limit
+  pub own-numbers : OwnNumbers p limit
   pub refused-elsewhere : RefusedElsewhere p
   pub determinant-is-sum : DeterminantIsSum p limit
   pub refused-exactly : RefusedExactly p limit

@@ -65,7 +65,7 @@ cofactor n e c r = after (columnBelow n c) (after (rowBelow n r) (after (taken n
 abbrev pub OneBitIsPower : Type 0
 OneBitIsPower = (n : ℕ) → T (oneBit n) ↔ ((k : ℕ) × (n ≡ 2 ^ k))
 
--- an inverse's entry as an exact fraction is a cofactor over the sum, columns and rows exchanged: that matrix and m have the sum times the identity as their product, either way round; shown in proofs/Fractions.antt
+-- at an order above 0 an inverse's entry as an exact fraction is a cofactor over the sum, columns and rows exchanged: that matrix and m have the sum times the identity as their product, either way round; shown in proofs/Fractions.antt
 abbrev pub CofactorsOverSum : ℕ → Matrix → Type 0
 CofactorsOverSum n m =
     IsMultiple n (times n m (λ c r. cofactorOf n m r c)) (signed-sum n m)
