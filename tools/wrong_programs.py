@@ -104,6 +104,11 @@ WRONG = {
         "load.rt put{234}": [("one number twice", "= v.y", "= v.x"), ("two numbers exchanged", "= v.x;\n    out[i + 1] = v.y", "= v.y;\n    out[i + 1] = v.x")],
         "load.rt matrix{234}": [("the first column twice", "at(s, {n})", "at(s, 0)"), ("the second column twice", "at(s, 0)", "at(s, {n})")],
     },
+    "bits": {
+        "lib.rt pattern": [("0 for every NaN", "{ NAN }", "{ 0 }"), ("the test turned round", "x != x", "x == x")],
+        "lib.rt number": [("0.0 for a NaN's pattern", "0.0 / 0.0", "0.0"), ("infinities read as NaN", "> 0x7ff0", ">= 0x7ff0")],
+        "lib.rt same": [("the other answer", "==", "!="), ("the first number twice", "pattern(b)", "pattern(a)")],
+    },
 }
 
 
