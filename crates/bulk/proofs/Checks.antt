@@ -45,21 +45,21 @@ length-wrong cause length wanted ne = simp (ne-eqb length wanted ne)
 -- ---- where none refuses
 
 -- a test that does not refuse was true
-passed : (b : Bool) (k : ℕ) → _≡_ {A = Outcome Unit} (cond b (given tt) (refused k)) (given tt) → b ≡ true
+pub passed : (b : Bool) (k : ℕ) → _≡_ {A = Outcome Unit} (cond b (given tt) (refused k)) (given tt) → b ≡ true
 passed true k e = refl
 passed false k e = let none : _≡_ {A = ℕ} 0 1 = cc in absurd (omega arith)
 
-both-true : (a b : Bool) → (a && b) ≡ true → (a ≡ true) × (b ≡ true)
+pub both-true : (a b : Bool) → (a && b) ≡ true → (a ≡ true) × (b ≡ true)
 both-true true b e = (refl, e)
 both-true false b e = let none : _≡_ {A = ℕ} 0 1 = cc in absurd (omega arith)
 
-order-is : (least order : ℕ) → orderFrom least order ≡ given tt → (least ≤ order) × (order ≤ 4)
+pub order-is : (least order : ℕ) → orderFrom least order ≡ given tt → (least ≤ order) × (order ≤ 4)
 unfolding orderFrom
 order-is least order e =
     let t = both-true _ _ (passed _ 5 e) in
     (leb-true least order (t .0), leb-true order 4 (t .1))
 
-length-is : (cause : Refusal) (length wanted : ℕ) → lengthIs cause length wanted ≡ given tt → length ≡ wanted
+pub length-is : (cause : Refusal) (length wanted : ℕ) → lengthIs cause length wanted ≡ given tt → length ≡ wanted
 unfolding lengthIs
 length-is cause length wanted e = eqb-true length wanted (passed _ _ e)
 

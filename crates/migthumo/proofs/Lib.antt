@@ -1,0 +1,5 @@
+pub mod Checks
+pub mod Flat
+pub mod Entries
+pub mod InPlace
+pub mod Pairs

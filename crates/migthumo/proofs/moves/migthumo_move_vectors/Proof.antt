@@ -1,0 +1,23 @@
+-- The answer of the bulk move, as its number; the output as the bulk move leaves it. Assumes nothing.
+use Rattle.migthumo.proofs.Entries.{passed-on}
+use borrow.Author.Needs.{needs}
+use Rattle.migthumo.proofs.moves.migthumo_move_vectors.Statement.{statement}
+use Rattle.migthumo.proofs.moves.migthumo_move_vectors.Tie as tie
+
+move-vectors-requires : tie.Need-move-vectors-requires
+move-vectors-requires c κs = search needs
+
+said-requires : tie.Need-said-requires
+said-requires c κs = search needs
+
+same-length : tie.Need-same-length
+same-length c = search needs
+
+returns : tie.Need-returns
+returns c =
+    let moved = c .before .before .before in
+    passed-on _ (c .said .ensures) (moved .move-vectors .ensures .0) (moved .move-vectors .ensures .1)
+
+pub migthumo-move-vectors-spec : {M : Type 1} → statement M
+migthumo-move-vectors-spec =
+    tie.close (tie.spec move-vectors-requires said-requires same-length returns)

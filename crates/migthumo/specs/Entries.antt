@@ -1,0 +1,53 @@
+-- Document 01, 'The numbers a refusal carries': what an entry of the boundary tests first, in the order 5, 3, 4, and what it answers and leaves.
+-- Assumes nothing.
+use Prim.Native.Nat.{ℕ, _*_, _^_}
+use mathlib.Core.Path.{_≡_}
+use mathlib.Core.Bool.{cond, _&&_}
+use mathlib.Core.List.{List, [], _∷_}
+use lib.Dec.{leb, ltb, eqb}
+use Rattle.vector.specs.declared.refusal.Refusal.the-variants.{InputLength, OutputLength, Order}
+use Rattle.vector.specs.Refusals.{Outcome, given, refused, refusedFor, after, leaves}
+use Rattle.bulk.specs.Refusals.{orderFrom, lengthIs}
+
+-- the number answered: 0, or that of the refusal
+abbrev pub code : {A : Type 0} → Outcome A → ℕ
+code (given _) = 0
+code (refused n) = n
+
+-- an entry that answers r, and leaves `exit` where `entry` was lent, has this outcome
+pub record Answers {A : Type 0} (r : ℕ) (entry exit : A) (outcome : Outcome A) : Type 0 where
+  pub answer : r ≡ code outcome
+  pub left : exit ≡ leaves entry outcome
+
+-- what was given, made over
+abbrev pub over : {A B : Type 0} → (A → B) → Outcome A → Outcome B
+over f (given a) = given (f a)
+over f (refused n) = refused n
+
+-- refusal 3 unless each input has the length wanted
+abbrev pub lengthsAre : List ℕ → ℕ → Outcome Unit
+lengthsAre [] wanted = given tt
+lengthsAre (n ∷ inputs) wanted = after (lengthIs InputLength n wanted) (lengthsAre inputs wanted)
+
+-- the order, from the least one that the entry takes; each input, a matrix of order² numbers; the output,
+-- one number at width 0, a vector of `order` numbers at 1, a matrix of order² at 2
+unfoldable pub fits : ℕ → ℕ → List ℕ → ℕ → ℕ → Outcome Unit
+fits least order inputs width output =
+    after (orderFrom least order)
+    (after (lengthsAre inputs (order * order))
+    (lengthIs OutputLength output (order ^ width)))
+
+-- refusal 5 unless the orders are 2 in 3, 2 in 4 or 3 in 4
+unfoldable pub ordersEmbed : ℕ → ℕ → Outcome Unit
+ordersEmbed order to = cond (leb 2 order && (ltb order to && leb to 4)) (given tt) (refusedFor Order)
+
+-- the tests of an embedding: the orders, the input of order² numbers, the output of to²
+unfoldable pub fitsTo : ℕ → ℕ → ℕ → ℕ → Outcome Unit
+fitsTo order to input output =
+    after (ordersEmbed order to)
+    (after (lengthIs InputLength input (order * order))
+    (lengthIs OutputLength output (to * to)))
+
+-- what stands for the order, which is 2, 3 or 4
+abbrev pub byOrder : {A : Type 0} → ℕ → A → A → A → A
+byOrder order two three four = cond (eqb order 2) two (cond (eqb order 3) three four)

@@ -1,0 +1,3 @@
+pub mod Entries
+pub mod Flat
+pub mod Boundary

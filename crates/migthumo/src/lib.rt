@@ -1,0 +1,13 @@
+// The boundary: the port as functions over numbers and flat column-major slices, which C and Rust call as libmigthumo.a.
+// Each answers 0 or document 01's refusal number, found in the order 5, 3, 4, 1, 6, 2; where it is not 0 the output is as it was.
+pub mod arithmetic;
+mod check;
+pub mod exact;
+pub mod in_place;
+pub mod inverse;
+mod load;
+pub mod moves;
+pub mod places;
+pub mod records;
+pub mod rotations;
+mod store;

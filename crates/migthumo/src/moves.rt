@@ -1,0 +1,43 @@
+// Moves of many vectors or points by one flat matrix.
+ghost use mathlib.Core.Path.{_≡_};
+ghost use Rattle.bulk.specs.Moves.{moveVectors, movePoints};
+ghost use Rattle.bulk.specs.Refusals.{movedOutcome};
+ghost use Rattle.migthumo.specs.Entries.{code, Answers};
+use bulk;
+use bulk::Moved;
+
+// The number that stands for the answer of a bulk move.
+fn said(answer: Moved) -> u32
+    ensures { λ r. ⌜ r ≡ code (movedOutcome answer) ⌝ }
+{
+    match answer {
+        Moved::Done => 0,
+        Moved::Refused(cause) => cause.number(),
+    }
+}
+
+// Every vector times the matrix; the output is as long as the vectors.
+#[no_mangle]
+pub extern "C" fn migthumo_move_vectors(
+    order: usize,
+    m: &[f64],
+    vectors: &[f64],
+    out: &mut [f64],
+) -> u32
+    ensures { λ r. ⌜ Answers r (now (out .entry)) (now (out .exit)) (moveVectors order (now (m .entry)) (now (vectors .entry)) (now (out .entry))) ⌝ }
+{
+    said(bulk::move_vectors(order, m, vectors, out))
+}
+
+// Every point, extended by 1, times the matrix, without its last coordinate; the output is as long as the points.
+#[no_mangle]
+pub extern "C" fn migthumo_move_points(
+    order: usize,
+    m: &[f64],
+    points: &[f64],
+    out: &mut [f64],
+) -> u32
+    ensures { λ r. ⌜ Answers r (now (out .entry)) (now (out .exit)) (movePoints order (now (m .entry)) (now (points .entry)) (now (out .entry))) ⌝ }
+{
+    said(bulk::move_points(order, m, points, out))
+}
