@@ -112,10 +112,13 @@ fn determinants_and_inverses_of_order_4() {
 }
 
 #[test]
-fn inverses_are_divided_once() {
-    assert_eq!(Matrix2::from_value(3.0).invert().unwrap().x.x, 3.0 / 9.0);
-    assert_eq!(Matrix3::from_value(3.0).invert().unwrap().x.x, 9.0 / 27.0);
-    assert_eq!(Matrix4::from_value(3.0).invert().unwrap().x.x, 27.0 * (1.0 / 81.0));
+fn inverses_divide_or_multiply_as_the_rules_say() {
+    let (second, third, fourth) = (21.0 / 441.0, 441.0 / 9261.0, 729.0 * (1.0 / 6561.0));
+    assert_eq!(Matrix2::from_value(21.0).invert(), Ok(Matrix2::from_value(second)));
+    assert_eq!(Matrix3::from_value(21.0).invert(), Ok(Matrix3::from_value(third)));
+    assert_eq!(Matrix4::from_value(9.0).invert(), Ok(Matrix4::from_value(fourth)));
+    let the_other_way = (21.0 * (1.0 / 441.0), 441.0 * (1.0 / 9261.0), 729.0 / 6561.0);
+    assert!(second != the_other_way.0 && third != the_other_way.1 && fourth != the_other_way.2);
 }
 
 #[test]
