@@ -141,26 +141,29 @@ fn refused(number: u32) -> Refusal {
 pub(crate) unsafe trait Record: Copy {
     /// How many numbers.
     const NUMBERS: usize;
+    /// The record whose numbers are all 0.
+    const ZERO: Self;
 }
 
 /// Says so of a record, and has the compiler measure it.
 macro_rules! record {
-    ($Record:ident, $numbers:literal) => {
+    ($Record:ident, $numbers:literal, $zero:expr) => {
         const _: () = assert!(size_of::<$Record>() == $numbers * size_of::<f64>());
         const _: () = assert!(align_of::<$Record>() == align_of::<f64>());
         // SAFETY: `#[repr(C)]`, made of `f64`s or of such records, and measured above.
         unsafe impl Record for $Record {
             const NUMBERS: usize = $numbers;
+            const ZERO: Self = $zero;
         }
     };
 }
 
-record!(Vector2, 2);
-record!(Vector3, 3);
-record!(Vector4, 4);
-record!(Matrix2, 4);
-record!(Matrix3, 9);
-record!(Matrix4, 16);
+record!(Vector2, 2, Vector2::new(0.0, 0.0));
+record!(Vector3, 3, Vector3::new(0.0, 0.0, 0.0));
+record!(Vector4, 4, Vector4::new(0.0, 0.0, 0.0, 0.0));
+record!(Matrix2, 4, Matrix2::zero());
+record!(Matrix3, 9, Matrix3::zero());
+record!(Matrix4, 16, Matrix4::zero());
 
 /// The records' numbers in a row.
 #[inline]

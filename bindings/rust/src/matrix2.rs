@@ -108,7 +108,7 @@ impl Matrix2 {
     /// ```
     #[inline]
     pub fn from_angle(sine: f64, cosine: f64) -> Self {
-        given(Self::zero(), |out| ffi::from_angle(sine, cosine, out))
+        given(|out| ffi::from_angle(sine, cosine, out))
     }
 }
 

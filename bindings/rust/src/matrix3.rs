@@ -158,7 +158,7 @@ impl Matrix3 {
 impl From<Matrix2> for Matrix3 {
     #[inline]
     fn from(m: Matrix2) -> Self {
-        given(Self::zero(), |out| ffi::embed(2, 3, ffi::numbers(&m), out))
+        given(|out| ffi::embed(2, 3, ffi::numbers(&m), out))
     }
 }
 

@@ -220,7 +220,7 @@ impl Matrix4 {
 impl From<Matrix2> for Matrix4 {
     #[inline]
     fn from(m: Matrix2) -> Self {
-        given(Self::zero(), |out| ffi::embed(2, 4, ffi::numbers(&m), out))
+        given(|out| ffi::embed(2, 4, ffi::numbers(&m), out))
     }
 }
 
@@ -235,7 +235,7 @@ impl From<Matrix2> for Matrix4 {
 impl From<Matrix3> for Matrix4 {
     #[inline]
     fn from(m: Matrix3) -> Self {
-        given(Self::zero(), |out| ffi::embed(3, 4, ffi::numbers(&m), out))
+        given(|out| ffi::embed(3, 4, ffi::numbers(&m), out))
     }
 }
 

@@ -105,57 +105,55 @@ macro_rules! operators {
             /// This matrix and the other, entry by entry.
             #[inline]
             fn plus(&self, other: &Self) -> Self {
-                given(Self::zero(), |out| ffi::add($order, ffi::numbers(self), ffi::numbers(other), out))
+                given(|out| ffi::add($order, ffi::numbers(self), ffi::numbers(other), out))
             }
 
             /// This matrix less the other, entry by entry.
             #[inline]
             fn less(&self, other: &Self) -> Self {
-                given(Self::zero(), |out| ffi::subtract($order, ffi::numbers(self), ffi::numbers(other), out))
+                given(|out| ffi::subtract($order, ffi::numbers(self), ffi::numbers(other), out))
             }
 
             /// This matrix times the other.
             #[inline]
             fn product(&self, other: &Self) -> Self {
-                given(Self::zero(), |out| ffi::product($order, ffi::numbers(self), ffi::numbers(other), out))
+                given(|out| ffi::product($order, ffi::numbers(self), ffi::numbers(other), out))
             }
 
             /// This matrix times the vector: a move of one.
             #[inline]
             fn moved(&self, vector: &$Vector) -> $Vector {
-                given($Vector::from([0.0; $order]), |out| {
-                    ffi::move_vectors($order, ffi::numbers(self), ffi::numbers(vector), out)
-                })
+                given(|out| ffi::move_vectors($order, ffi::numbers(self), ffi::numbers(vector), out))
             }
 
             /// Each entry times the number, on the right.
             #[inline]
             fn scaled_by(&self, number: f64) -> Self {
-                given(Self::zero(), |out| ffi::scale_by($order, ffi::numbers(self), number, out))
+                given(|out| ffi::scale_by($order, ffi::numbers(self), number, out))
             }
 
             /// Each entry divided by the number, on the right.
             #[inline]
             fn divided_by(&self, number: f64) -> Self {
-                given(Self::zero(), |out| ffi::divide_by($order, ffi::numbers(self), number, out))
+                given(|out| ffi::divide_by($order, ffi::numbers(self), number, out))
             }
 
             /// The number, on the left, times each entry.
             #[inline]
             fn scaled(&self, number: f64) -> Self {
-                given(Self::zero(), |out| ffi::scale($order, number, ffi::numbers(self), out))
+                given(|out| ffi::scale($order, number, ffi::numbers(self), out))
             }
 
             /// The number, on the left, divided by each entry.
             #[inline]
             fn dividing(&self, number: f64) -> Self {
-                given(Self::zero(), |out| ffi::divide($order, number, ffi::numbers(self), out))
+                given(|out| ffi::divide($order, number, ffi::numbers(self), out))
             }
 
             /// Every sign turned.
             #[inline]
             fn negated(&self) -> Self {
-                given(Self::zero(), |out| ffi::negate($order, ffi::numbers(self), out))
+                given(|out| ffi::negate($order, ffi::numbers(self), out))
             }
         }
 

@@ -9,17 +9,16 @@ const GIVEN: &str = "the library gives this for every matrix";
 
 /// The record with the numbers that `fill` writes, or its refusal.
 #[inline]
-pub(crate) fn asked<T: Record>(
-    mut record: T,
-    fill: impl FnOnce(&mut [f64]) -> Result<(), Refusal>,
-) -> Result<T, Refusal> {
+pub(crate) fn asked<T: Record>(fill: impl FnOnce(&mut [f64]) -> Result<(), Refusal>) -> Result<T, Refusal> {
+    let mut record = T::ZERO;
     fill(ffi::numbers_mut(&mut record))?;
     Ok(record)
 }
 
 /// The record with the numbers that `fill` writes, where it refuses nothing.
 #[inline]
-pub(crate) fn given<T: Record>(mut record: T, fill: impl FnOnce(&mut [f64]) -> Result<(), Refusal>) -> T {
+pub(crate) fn given<T: Record>(fill: impl FnOnce(&mut [f64]) -> Result<(), Refusal>) -> T {
+    let mut record = T::ZERO;
     fill(ffi::numbers_mut(&mut record)).expect(GIVEN);
     record
 }
@@ -98,7 +97,7 @@ macro_rules! square {
             /// ```
             #[inline]
             pub fn invert(&self) -> Result<Self, Refusal> {
-                asked(Self::zero(), |out| ffi::invert(Self::ORDER, ffi::numbers(self), out))
+                asked(|out| ffi::invert(Self::ORDER, ffi::numbers(self), out))
             }
 
             /// Columns as rows.
@@ -112,7 +111,7 @@ macro_rules! square {
             /// ```
             #[inline]
             pub fn transpose(&self) -> Self {
-                given(Self::zero(), |out| ffi::transpose(Self::ORDER, ffi::numbers(self), out))
+                given(|out| ffi::transpose(Self::ORDER, ffi::numbers(self), out))
             }
 
             /// Turns the matrix into its transpose.
@@ -144,7 +143,7 @@ macro_rules! square {
             /// ```
             #[inline]
             pub fn row(&self, r: usize) -> Result<$Vector, Refusal> {
-                asked($Vector::from([0.0; $order]), |out| ffi::row(Self::ORDER, r, ffi::numbers(self), out))
+                asked(|out| ffi::row(Self::ORDER, r, ffi::numbers(self), out))
             }
 
             /// The entries whose column is their row.
@@ -156,7 +155,7 @@ macro_rules! square {
             /// ```
             #[inline]
             pub fn diagonal(&self) -> $Vector {
-                given($Vector::from([0.0; $order]), |out| ffi::diagonal(Self::ORDER, ffi::numbers(self), out))
+                given(|out| ffi::diagonal(Self::ORDER, ffi::numbers(self), out))
             }
 
             /// The signed sum over all column orders, exact.
@@ -340,7 +339,7 @@ macro_rules! space {
             /// ```
             #[inline]
             pub fn from_angle_x(sine: f64, cosine: f64) -> Self {
-                given(Self::zero(), |out| ffi::from_angle_x(Self::ORDER, sine, cosine, out))
+                given(|out| ffi::from_angle_x(Self::ORDER, sine, cosine, out))
             }
 
             /// The rotation around the y axis with this sine and cosine.
@@ -353,7 +352,7 @@ macro_rules! space {
             /// ```
             #[inline]
             pub fn from_angle_y(sine: f64, cosine: f64) -> Self {
-                given(Self::zero(), |out| ffi::from_angle_y(Self::ORDER, sine, cosine, out))
+                given(|out| ffi::from_angle_y(Self::ORDER, sine, cosine, out))
             }
 
             /// The rotation around the z axis with this sine and cosine.
@@ -366,7 +365,7 @@ macro_rules! space {
             /// ```
             #[inline]
             pub fn from_angle_z(sine: f64, cosine: f64) -> Self {
-                given(Self::zero(), |out| ffi::from_angle_z(Self::ORDER, sine, cosine, out))
+                given(|out| ffi::from_angle_z(Self::ORDER, sine, cosine, out))
             }
 
             /// The rotation around an axis with this sine and cosine. The axis is not checked for length.
@@ -381,7 +380,7 @@ macro_rules! space {
             #[inline]
             pub fn from_axis_angle(axis: Vector3, sine: f64, cosine: f64) -> Self {
                 let Vector3 { x, y, z } = axis;
-                given(Self::zero(), |out| ffi::from_axis_angle(Self::ORDER, x, y, z, sine, cosine, out))
+                given(|out| ffi::from_axis_angle(Self::ORDER, x, y, z, sine, cosine, out))
             }
 
             /// Every point, extended by 1, times the matrix, without its last coordinate, over numbers in a row.
