@@ -21,7 +21,8 @@
  * tested. No function allocates, blocks, or keeps a pointer; each may be called from many threads at once.
  *
  * Each operation rounds once, to nearest even; nothing is fused or reordered. Transposes, swaps, rows, diagonals and
- * embeddings carry each entry over with all its bits.
+ * embeddings carry each entry over with all its bits. Which NaN it is that a sum or a product gives is not promised;
+ * that a NaN is carried over with its bits is tested, and not proved.
  */
 #ifndef MIGTHUMO_H
 #define MIGTHUMO_H

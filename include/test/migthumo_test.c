@@ -100,7 +100,7 @@ static void moves(void)
 
     fill(out, 6);
     answers("no vectors", migthumo_move_vectors(2, turn, 4, counted, 0, out, 0), MIGTHUMO_GIVEN);
-    answers("vectors, order 5", migthumo_move_vectors(5, counted, 25, counted, 5, out, 5), MIGTHUMO_ORDER);
+    answers("vectors, order 5", migthumo_move_vectors(5, counted, 16, counted, 5, out, 5), MIGTHUMO_ORDER);
     answers("points, order 2", migthumo_move_points(2, turn, 4, counted, 4, out, 4), MIGTHUMO_ORDER);
     answers("vectors, matrix of 8", migthumo_move_vectors(3, counted, 8, counted, 3, out, 3), MIGTHUMO_INPUT_LENGTH);
     answers("vectors, one and a half", migthumo_move_vectors(2, turn, 4, counted, 3, out, 3), MIGTHUMO_INPUT_LENGTH);
@@ -284,7 +284,7 @@ static void builders(void)
 
     fill(out, 16);
     answers("3 in 3", migthumo_embed(3, 3, counted, 9, out, 9), MIGTHUMO_ORDER);
-    answers("2 in 5", migthumo_embed(2, 5, counted, 4, out, 25), MIGTHUMO_ORDER);
+    answers("2 in 5", migthumo_embed(2, 5, counted, 4, out, 16), MIGTHUMO_ORDER);
     answers("2 in 3, matrix of 5", migthumo_embed(2, 3, counted, 5, out, 9), MIGTHUMO_INPUT_LENGTH);
     answers("angle, output of 9", migthumo_from_angle(1, 0, out, 9), MIGTHUMO_OUTPUT_LENGTH);
     answers("angle x, order 2", migthumo_from_angle_x(2, 1, 0, out, 4), MIGTHUMO_ORDER);

@@ -176,7 +176,7 @@ macro_rules! square {
                 Ok(out[0])
             }
 
-            /// Whether the magnitude of the signed sum is a power of two, so that the inverse undoes the matrix exactly.
+            /// Whether the magnitude of the signed sum is a power of two. Then the matrix times its inverse is the identity.
             ///
             /// [`Refusal::NotWhole`] as for the sum.
             ///
