@@ -17,8 +17,8 @@
  *  - floating point works as a program finds it at its start: rounding to nearest, subnormal numbers kept. A program
  *    linked with -ffast-math may change that.
  *
- * What is not asked: any double may be handed in, NaN and infinities too, and any order, place and length, since all are
- * tested. No function allocates, blocks, or keeps a pointer; each may be called from many threads at once.
+ * What is not asked: any double may be handed in, NaN and infinities too, and any order, place and length, since all
+ * are tested. No function allocates, blocks, or keeps a pointer; each may be called from many threads at once.
  *
  * Each operation rounds once, to nearest even; nothing is fused or reordered. Transposes, swaps, rows, diagonals and
  * embeddings carry each entry over with all its bits. Which NaN it is that a sum or a product gives is not promised;

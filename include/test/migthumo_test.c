@@ -2,7 +2,8 @@
  * Calls every function of migthumo.h and compares what it answers and what it leaves. From the root of the repository:
  *
  *     rt staticlib migthumo
- *     cc -Wall -Wextra -std=c99 -Iinclude include/test/migthumo_test.c target/staticlib/libmigthumo.a -o target/migthumo_test && target/migthumo_test
+ *     cc -Wall -Wextra -std=c99 -Iinclude include/test/migthumo_test.c target/staticlib/libmigthumo.a -o target/c_test
+ *     target/c_test
  *
  * Its last line counts the checks; it exits with 1 where one of them failed.
  */
@@ -62,13 +63,16 @@ static void fill(double *out, size_t length)
         out[i] = BEFORE;
 }
 
-/* The output is as `fill` left it. */
-static void unchanged(const char *what, const double *out, size_t length)
+/* The function answered this refusal and left the output, which `fill` has filled, as it was. */
+static void refuses(const char *what, uint32_t got, uint32_t want, const double *out, size_t length)
 {
     size_t i = 0;
+    answers(what, got, want);
     while (i < length && out[i] == BEFORE)
         i++;
     check(what, i == length);
+    if (i < length)
+        printf("  number %zu was written\n", i);
 }
 
 /* The numbers 1, 2, 3 .. in a row: a matrix whose entries all differ. */
@@ -100,13 +104,16 @@ static void moves(void)
 
     fill(out, 6);
     answers("no vectors", migthumo_move_vectors(2, turn, 4, counted, 0, out, 0), MIGTHUMO_GIVEN);
-    answers("vectors, order 5", migthumo_move_vectors(5, counted, 16, counted, 5, out, 5), MIGTHUMO_ORDER);
-    answers("points, order 2", migthumo_move_points(2, turn, 4, counted, 4, out, 4), MIGTHUMO_ORDER);
-    answers("vectors, matrix of 8", migthumo_move_vectors(3, counted, 8, counted, 3, out, 3), MIGTHUMO_INPUT_LENGTH);
-    answers("vectors, one and a half", migthumo_move_vectors(2, turn, 4, counted, 3, out, 3), MIGTHUMO_INPUT_LENGTH);
-    answers("vectors, output one short", migthumo_move_vectors(2, turn, 4, counted, 4, out, 3), MIGTHUMO_OUTPUT_LENGTH);
-    answers("points, output one long", migthumo_move_points(3, shift, 9, counted, 4, out, 5), MIGTHUMO_OUTPUT_LENGTH);
-    unchanged("moves refused", out, 6);
+    refuses("vectors, order 5", migthumo_move_vectors(5, counted, 16, counted, 5, out, 5), MIGTHUMO_ORDER, out, 6);
+    refuses("points, order 2", migthumo_move_points(2, turn, 4, counted, 4, out, 4), MIGTHUMO_ORDER, out, 6);
+    refuses("vectors, matrix of 8", migthumo_move_vectors(3, counted, 8, counted, 3, out, 3),
+            MIGTHUMO_INPUT_LENGTH, out, 6);
+    refuses("vectors, one and a half", migthumo_move_vectors(2, turn, 4, counted, 3, out, 3),
+            MIGTHUMO_INPUT_LENGTH, out, 6);
+    refuses("vectors, output one short", migthumo_move_vectors(2, turn, 4, counted, 4, out, 3),
+            MIGTHUMO_OUTPUT_LENGTH, out, 6);
+    refuses("points, output one long", migthumo_move_points(3, shift, 9, counted, 4, out, 5),
+            MIGTHUMO_OUTPUT_LENGTH, out, 6);
 }
 
 /* Determinants and inverses: cases R1 to R6 and R10 of the scope paper. */
@@ -139,14 +146,13 @@ static void inverses(void)
     check("R10, determinant", one[0] == 8);
 
     fill(out, 16);
-    answers("R3", migthumo_invert(2, r3, 4, out, 4), MIGTHUMO_SINGULAR);
-    answers("R4", migthumo_invert(2, r4, 4, out, 4), MIGTHUMO_SINGULAR);
-    answers("inverse, order 1", migthumo_invert(1, r3, 1, out, 1), MIGTHUMO_ORDER);
-    answers("inverse, all wrong", migthumo_invert(0, r3, 3, out, 2), MIGTHUMO_ORDER);
-    answers("inverse, both lengths wrong", migthumo_invert(2, r3, 3, out, 2), MIGTHUMO_INPUT_LENGTH);
-    answers("inverse, output before zero", migthumo_invert(2, r3, 4, out, 9), MIGTHUMO_OUTPUT_LENGTH);
-    answers("determinant, output of two", migthumo_determinant(2, r3, 4, out, 2), MIGTHUMO_OUTPUT_LENGTH);
-    unchanged("inverses refused", out, 16);
+    refuses("R3", migthumo_invert(2, r3, 4, out, 4), MIGTHUMO_SINGULAR, out, 16);
+    refuses("R4", migthumo_invert(2, r4, 4, out, 4), MIGTHUMO_SINGULAR, out, 16);
+    refuses("inverse, order 1", migthumo_invert(1, r3, 1, out, 1), MIGTHUMO_ORDER, out, 16);
+    refuses("inverse, all wrong", migthumo_invert(0, r3, 3, out, 2), MIGTHUMO_ORDER, out, 16);
+    refuses("inverse, both lengths wrong", migthumo_invert(2, r3, 3, out, 2), MIGTHUMO_INPUT_LENGTH, out, 16);
+    refuses("inverse, output before zero", migthumo_invert(2, r3, 4, out, 9), MIGTHUMO_OUTPUT_LENGTH, out, 16);
+    refuses("determinant, output of two", migthumo_determinant(2, r3, 4, out, 2), MIGTHUMO_OUTPUT_LENGTH, out, 16);
 }
 
 /* Sums, products and scalar forms. */
@@ -180,10 +186,14 @@ static void arithmetic(void)
     equal("negate, its numbers", out, turned, 4);
 
     fill(out, 4);
-    answers("product, second one short", migthumo_product(2, a, 4, b, 3, out, 4), MIGTHUMO_INPUT_LENGTH);
-    answers("sum, order 5", migthumo_add(5, a, 4, b, 4, out, 4), MIGTHUMO_ORDER);
-    answers("difference, output short", migthumo_subtract(2, a, 4, b, 4, out, 3), MIGTHUMO_OUTPUT_LENGTH);
-    unchanged("arithmetic refused", out, 4);
+    refuses("product, second one short", migthumo_product(2, a, 4, b, 3, out, 4), MIGTHUMO_INPUT_LENGTH, out, 4);
+    refuses("scale, order 1", migthumo_scale(1, 3, counted, 4, out, 4), MIGTHUMO_ORDER, out, 4);
+    refuses("scale by, matrix of 3", migthumo_scale_by(2, counted, 3, 3, out, 4), MIGTHUMO_INPUT_LENGTH, out, 4);
+    refuses("divide, output short", migthumo_divide(2, 3, counted, 4, out, 3), MIGTHUMO_OUTPUT_LENGTH, out, 4);
+    refuses("divide by, order 5", migthumo_divide_by(5, counted, 4, 3, out, 4), MIGTHUMO_ORDER, out, 4);
+    refuses("negate, matrix of 5", migthumo_negate(2, counted, 5, out, 4), MIGTHUMO_INPUT_LENGTH, out, 4);
+    refuses("sum, order 5", migthumo_add(5, a, 4, b, 4, out, 4), MIGTHUMO_ORDER, out, 4);
+    refuses("difference, output short", migthumo_subtract(2, a, 4, b, 4, out, 3), MIGTHUMO_OUTPUT_LENGTH, out, 4);
 }
 
 /* The exact engine: case R12 and a sum of order 4. */
@@ -196,11 +206,13 @@ static void exact(void)
     uint8_t flag[1] = {99};
 
     answers("sum of 1025", migthumo_signed_sum(2, large, 4, sum, 1), MIGTHUMO_NOT_WHOLE);
+    check("sum of 1025, not written", sum[0] == 99);
     answers("sum of a half", migthumo_signed_sum(2, half, 4, sum, 1), MIGTHUMO_NOT_WHOLE);
+    check("sum of a half, not written", sum[0] == 99);
     answers("sum, output of none", migthumo_signed_sum(2, half, 4, sum, 0), MIGTHUMO_OUTPUT_LENGTH);
-    check("sums refused", sum[0] == 99);
+    check("sum, output of none, not written", sum[0] == 99);
     answers("verdict of a half", migthumo_undoable(2, half, 4, flag, 1), MIGTHUMO_NOT_WHOLE);
-    check("verdict refused", flag[0] == 99);
+    check("verdict of a half, not written", flag[0] == 99);
 
     answers("R12", migthumo_signed_sum(2, taken, 4, sum, 1), MIGTHUMO_GIVEN);
     check("R12, the sum", sum[0] == 1024 * 1024);
@@ -242,14 +254,14 @@ static void places(void)
     same_bits("transpose of NaNs, their bits", out, turned, 4);
 
     fill(out, 9);
-    answers("R11, columns 5 and 5", migthumo_swap_columns(2, 5, 5, counted, 4, out, 4), MIGTHUMO_OUT_OF_RANGE);
-    answers("rows 0 and 3", migthumo_swap_rows(3, 0, 3, counted, 9, out, 9), MIGTHUMO_OUT_OF_RANGE);
-    answers("element at row 3", migthumo_swap_elements(3, 0, 0, 0, 3, counted, 9, out, 9), MIGTHUMO_OUT_OF_RANGE);
-    answers("row 3", migthumo_row(3, 3, counted, 9, out, 3), MIGTHUMO_OUT_OF_RANGE);
-    answers("row 3, output long", migthumo_row(3, 3, counted, 9, out, 9), MIGTHUMO_OUTPUT_LENGTH);
-    answers("diagonal, order 5", migthumo_diagonal(5, counted, 9, out, 3), MIGTHUMO_ORDER);
-    answers("transpose, matrix of 8", migthumo_transpose(3, counted, 8, out, 9), MIGTHUMO_INPUT_LENGTH);
-    unchanged("places refused", out, 9);
+    refuses("R11, columns 5 and 5", migthumo_swap_columns(2, 5, 5, counted, 4, out, 4), MIGTHUMO_OUT_OF_RANGE, out, 9);
+    refuses("rows 0 and 3", migthumo_swap_rows(3, 0, 3, counted, 9, out, 9), MIGTHUMO_OUT_OF_RANGE, out, 9);
+    refuses("element at row 3", migthumo_swap_elements(3, 0, 0, 0, 3, counted, 9, out, 9),
+            MIGTHUMO_OUT_OF_RANGE, out, 9);
+    refuses("row 3", migthumo_row(3, 3, counted, 9, out, 3), MIGTHUMO_OUT_OF_RANGE, out, 9);
+    refuses("row 3, output long", migthumo_row(3, 3, counted, 9, out, 9), MIGTHUMO_OUTPUT_LENGTH, out, 9);
+    refuses("diagonal, order 5", migthumo_diagonal(5, counted, 9, out, 3), MIGTHUMO_ORDER, out, 9);
+    refuses("transpose, matrix of 8", migthumo_transpose(3, counted, 8, out, 9), MIGTHUMO_INPUT_LENGTH, out, 9);
 }
 
 /* Embeddings and rotations. */
@@ -283,41 +295,48 @@ static void builders(void)
     equal("axis and angle z, order 4", out, space, 16);
 
     fill(out, 16);
-    answers("3 in 3", migthumo_embed(3, 3, counted, 9, out, 9), MIGTHUMO_ORDER);
-    answers("2 in 5", migthumo_embed(2, 5, counted, 4, out, 16), MIGTHUMO_ORDER);
-    answers("2 in 3, matrix of 5", migthumo_embed(2, 3, counted, 5, out, 9), MIGTHUMO_INPUT_LENGTH);
-    answers("angle, output of 9", migthumo_from_angle(1, 0, out, 9), MIGTHUMO_OUTPUT_LENGTH);
-    answers("angle x, order 2", migthumo_from_angle_x(2, 1, 0, out, 4), MIGTHUMO_ORDER);
-    answers("axis, output of 4", migthumo_from_axis_angle(3, 0, 0, 1, 1, 0, out, 4), MIGTHUMO_OUTPUT_LENGTH);
-    unchanged("builders refused", out, 16);
+    refuses("3 in 3", migthumo_embed(3, 3, counted, 9, out, 9), MIGTHUMO_ORDER, out, 16);
+    refuses("2 in 5", migthumo_embed(2, 5, counted, 4, out, 16), MIGTHUMO_ORDER, out, 16);
+    refuses("2 in 3, matrix of 5", migthumo_embed(2, 3, counted, 5, out, 9), MIGTHUMO_INPUT_LENGTH, out, 16);
+    refuses("angle, output of 9", migthumo_from_angle(1, 0, out, 9), MIGTHUMO_OUTPUT_LENGTH, out, 16);
+    refuses("angle x, order 2", migthumo_from_angle_x(2, 1, 0, out, 4), MIGTHUMO_ORDER, out, 16);
+    refuses("angle y, order 5", migthumo_from_angle_y(5, 1, 0, out, 16), MIGTHUMO_ORDER, out, 16);
+    refuses("angle z, output of 4", migthumo_from_angle_z(4, 1, 0, out, 4), MIGTHUMO_OUTPUT_LENGTH, out, 16);
+    refuses("axis, output of 4", migthumo_from_axis_angle(3, 0, 0, 1, 1, 0, out, 4), MIGTHUMO_OUTPUT_LENGTH, out, 16);
+}
+
+/* The matrix has these numbers, column by column. */
+static void holds(const char *what, const migthumo_matrix4 *m, const double *want)
+{
+    check(what, memcmp(m, want, sizeof *m) == 0);
 }
 
 /* Swaps of a matrix of order 4 in place. */
 static void in_place(void)
 {
-    migthumo_matrix4 m, before;
-    double want[16];
+    const double rows[16] = {4, 2, 3, 1, 8, 6, 7, 5, 12, 10, 11, 9, 16, 14, 15, 13};
+    const double columns[16] = {1, 2, 3, 4, 9, 10, 11, 12, 5, 6, 7, 8, 13, 14, 15, 16};
+    const double elements[16] = {1, 15, 3, 4, 5, 6, 7, 8, 9, 10, 11, 12, 13, 14, 2, 16};
+    migthumo_matrix4 m;
 
     check("a record is 16 numbers", sizeof m == sizeof counted);
     memcpy(&m, counted, sizeof m);
     answers("rows in place", migthumo_swap_rows_mut(&m, 0, 3), MIGTHUMO_GIVEN);
-    answers("rows by value", migthumo_swap_rows(4, 0, 3, counted, 16, want, 16), MIGTHUMO_GIVEN);
-    check("rows in place, as by value", memcmp(&m, want, sizeof m) == 0);
-    check("rows in place, the numbers", m.x.x == 4 && m.x.w == 1 && m.w.x == 16 && m.y.y == 6);
-
+    holds("rows in place, swapped", &m, rows);
     memcpy(&m, counted, sizeof m);
     answers("columns in place", migthumo_swap_columns_mut(&m, 1, 2), MIGTHUMO_GIVEN);
-    check("columns in place, the numbers", m.y.x == 9 && m.z.x == 5 && m.x.x == 1 && m.w.w == 16);
-
+    holds("columns in place, swapped", &m, columns);
     memcpy(&m, counted, sizeof m);
     answers("elements in place", migthumo_swap_elements_mut(&m, 0, 1, 3, 2), MIGTHUMO_GIVEN);
-    check("elements in place, the numbers", m.x.y == 15 && m.w.z == 2 && m.y.x == 5);
+    holds("elements in place, swapped", &m, elements);
 
-    before = m;
+    memcpy(&m, counted, sizeof m);
     answers("rows 4 and 4", migthumo_swap_rows_mut(&m, 4, 4), MIGTHUMO_OUT_OF_RANGE);
+    holds("rows 4 and 4, as it was", &m, counted);
     answers("columns 0 and 4", migthumo_swap_columns_mut(&m, 0, 4), MIGTHUMO_OUT_OF_RANGE);
+    holds("columns 0 and 4, as it was", &m, counted);
     answers("element at row 4", migthumo_swap_elements_mut(&m, 0, 0, 0, 4), MIGTHUMO_OUT_OF_RANGE);
-    check("in place, refused", memcmp(&m, &before, sizeof m) == 0);
+    holds("element at row 4, as it was", &m, counted);
 }
 
 int main(void)

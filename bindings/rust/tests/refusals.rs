@@ -100,22 +100,25 @@ fn swaps_by_value() {
     }
 }
 
-/// The swaps and the row of one order, at a place that is not below it.
+/// The swaps and the row of one order, at places that are not below it. The matrix is looked at after each.
 macro_rules! places {
     ($name:ident, $Matrix:ident) => {
         #[test]
         fn $name() {
-            let (mut m, outside) = ($Matrix::from_value(3.0), $Matrix::ORDER);
-            assert_eq!(m.row(outside), Err(OutOfRange));
-            assert_eq!(m.swap_rows(outside, outside), Err(OutOfRange));
-            assert_eq!(m.swap_rows(0, outside), Err(OutOfRange));
-            assert_eq!(m.swap_columns(outside, 0), Err(OutOfRange));
-            assert_eq!(m.swap_columns(usize::MAX, usize::MAX), Err(OutOfRange));
-            for places in [[outside, 0, 0, 0], [0, outside, 0, 0], [0, 0, outside, 0], [0, 0, 0, outside]] {
-                let [ac, ar, bc, br] = places;
-                assert_eq!(m.swap_elements((ac, ar), (bc, br)), Err(OutOfRange));
+            const OUTSIDE: usize = $Matrix::ORDER;
+            let refused = |call: &dyn Fn(&mut $Matrix) -> Result<(), Refusal>| {
+                let mut m = $Matrix::from_value(3.0);
+                assert_eq!((call(&mut m), m), (Err(OutOfRange), $Matrix::from_value(3.0)));
+            };
+            for (a, b) in [(0, OUTSIDE), (OUTSIDE, 0), (OUTSIDE, OUTSIDE), (usize::MAX, usize::MAX)] {
+                refused(&|m| m.swap_rows(a, b));
+                refused(&|m| m.swap_columns(a, b));
+                refused(&|m| m.swap_elements((a, 0), (b, 0)));
+                refused(&|m| m.swap_elements((0, a), (0, b)));
+                refused(&|m| m.swap_elements((a, b), (0, 0)));
+                refused(&|m| m.swap_elements((0, 0), (a, b)));
             }
-            assert_eq!(m, $Matrix::from_value(3.0));
+            assert_eq!($Matrix::identity().row(OUTSIDE), Err(OutOfRange));
         }
     };
 }
