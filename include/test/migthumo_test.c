@@ -93,7 +93,7 @@ static void moves(void)
     const double shift[9] = {1, 0, 0, 0, 1, 0, 10, 20, 1};
     const double in_space[16] = {2, 0, 0, 0, 0, 2, 0, 0, 0, 0, 2, 0, 4, 6, 8, 1};
     const double moved[4] = {-2, 1, -4, 3}, shifted[4] = {11, 22, 13, 24}, scaled[6] = {6, 10, 14, 12, 16, 20};
-    double out[6];
+    double out[6] = {0};
 
     answers("vectors", migthumo_move_vectors(2, turn, 4, counted, 4, out, 4), MIGTHUMO_GIVEN);
     equal("vectors, moved", out, moved, 4);
@@ -126,7 +126,7 @@ static void inverses(void)
     const double r6[9] = {0, 1, 0, -1, 0, 0, 10, 20, 1}, inverse6[9] = {0, -1, 0, 1, 0, 0, -20, 10, 1};
     const double r10[16] = {2, 0, 0, 0, 0, 2, 0, 0, 0, 0, 2, 0, 4, 6, 8, 1};
     const double inverse10[16] = {0.5, 0, 0, 0, 0, 0.5, 0, 0, 0, 0, 0.5, 0, -2, -3, -4, 1};
-    double out[16], one[1];
+    double out[16] = {0}, one[1] = {0};
 
     answers("R1", migthumo_invert(2, r1, 4, out, 4), MIGTHUMO_GIVEN);
     equal("R1, inverse", out, inverse1, 4);
@@ -162,7 +162,7 @@ static void arithmetic(void)
     const double ab[4] = {2, 1, 1, 1}, ba[4] = {1, 1, 1, 2}, sum[4] = {2, 1, 1, 2}, difference[4] = {0, -1, 1, 0};
     const double thrice[4] = {3, 6, 9, 12}, twelfths[4] = {12, 6, 4, 3}, halves[4] = {0.5, 1, 1.5, 2};
     const double turned[4] = {-1, -2, -3, -4};
-    double out[4];
+    double out[4] = {0};
 
     answers("product", migthumo_product(2, a, 4, b, 4, out, 4), MIGTHUMO_GIVEN);
     equal("R7", out, ab, 4);
@@ -230,7 +230,7 @@ static void places(void)
     const double transposed[9] = {1, 4, 7, 2, 5, 8, 3, 6, 9}, last_row[3] = {3, 6, 9}, diagonal[3] = {1, 5, 9};
     const double rows[9] = {3, 2, 1, 6, 5, 4, 9, 8, 7}, columns[9] = {7, 8, 9, 4, 5, 6, 1, 2, 3};
     const double elements[9] = {1, 6, 3, 4, 5, 2, 7, 8, 9};
-    double odd[4], turned[4], out[9];
+    double odd[4], turned[4], out[9] = {0};
 
     answers("transpose", migthumo_transpose(3, counted, 9, out, 9), MIGTHUMO_GIVEN);
     equal("transpose, its numbers", out, transposed, 9);
@@ -272,7 +272,7 @@ static void builders(void)
     const double plane[4] = {0, 1, -1, 0};
     const double around_x[9] = {1, 0, 0, 0, 0, 1, 0, -1, 0}, around_y[9] = {0, 0, -1, 0, 1, 0, 1, 0, 0};
     const double around_z[9] = {0, 1, 0, -1, 0, 0, 0, 0, 1};
-    double out[16], space[16];
+    double out[16] = {0}, space[16] = {0};
 
     answers("2 in 3", migthumo_embed(2, 3, counted, 4, out, 9), MIGTHUMO_GIVEN);
     equal("2 in 3, its numbers", out, in_three, 9);
