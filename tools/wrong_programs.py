@@ -104,6 +104,53 @@ WRONG = {
         "load.rt put{234}": [("one number twice", "= v.y", "= v.x"), ("two numbers exchanged", "= v.x;\n    out[i + 1] = v.y", "= v.y;\n    out[i + 1] = v.x")],
         "load.rt matrix{234}": [("the first column twice", "at(s, {n})", "at(s, 0)"), ("the second column twice", "at(s, 0)", "at(s, {n})")],
     },
+    "migthumo": {
+        "check.rt wanted": [("two numbers for one", "0 => 1", "0 => 2"), ("a vector for a matrix", "order * order", "order")],
+        "check.rt two": [("order 5 let pass", "4 < order", "5 < order"), ("the output tested before the second input", "Refusal::OutputLength", "Refusal::InputLength")],
+        "check.rt one": [("order 4 named", "two(order,", "two(4,"), ("another width", "width, out", "1, out")],
+        "check.rt rotation": [("order 2 let pass", "order < 3", "order < 2"), ("another refusal", "Refusal::OutputLength", "Refusal::InputLength")],
+        "check.rt embedding": [("an order in itself", "to <= order", "to < order"), ("the output as long as the input", "out != to * to", "out != order * order")],
+        "load.rt matrix{2}": [("[c][r] read as [r][c]", "s[1]], [s[2]", "s[2]], [s[1]"), ("one number twice", "s[3]", "s[0]")],
+        "load.rt matrix{3}": [("[c][r] read as [r][c]", "s[0], s[1], s[2]", "s[0], s[3], s[6]"), ("one number twice", "s[8]", "s[7]")],
+        "load.rt matrix{4}": [("[c][r] read as [r][c]", "s[0], s[1], s[2], s[3]", "s[0], s[4], s[8], s[12]"), ("one number twice", "s[15]", "s[0]")],
+        "store.rt number": [("writes 0", "= answer", "= 0.0"), ("answers a refusal", "    0\n", "    1\n")],
+        "store.rt whole": [("writes 1", "= n", "= 1"), ("a refusal answers 0", "cause.number()", "0")],
+        "store.rt bit": [("the other answer", "{ 1 } else { 0 }", "{ 0 } else { 1 }"), ("always yes", "else { 0 }", "else { 1 }")],
+        "store.rt verdict": [("always no", "bit(yes)", "bit(false)"), ("a refusal answers 0", "cause.number()", "0")],
+        "store.rt vector{234}": [("two numbers exchanged", "= v.x;\n            out[1] = v.y", "= v.y;\n            out[1] = v.x"), ("a refusal answers 0", "cause.number()", "0")],
+        "store.rt matrix{234}": [("row after row", "= m.x.y", "= m.y.x"), ("a refusal answers 0", "cause.number()", "0")],
+        "moves.rt said": [("done answers 1", "Done => 0", "Done => 1"), ("a refusal answers 0", "cause.number()", "0")],
+        "moves.rt migthumo_move_vectors": [("points for vectors", "move_vectors(order", "move_points(order"), ("the matrix for the vectors", "m, vectors", "m, m")],
+        "moves.rt migthumo_move_points": [("vectors for points", "move_points(order", "move_vectors(order"), ("the matrix for the points", "m, points", "m, m")],
+        "inverse.rt migthumo_determinant": [("fixed at 1", "load::matrix2(m).determinant()", "1.0"), ("of the order below", "load::matrix3(m).determinant()", "load::matrix2(m).determinant()")],
+        "inverse.rt migthumo_invert": [("the matrix itself", "load::matrix2(m).invert()", "matrix::Matrix2Answer::Given(load::matrix2(m))"), ("refuses everything", "load::matrix4(m).invert()", "matrix::Matrix4Answer::Refused(vector::Refusal::Singular)")],
+        "arithmetic.rt migthumo_product": [("the left side", "load::matrix2(a).mul(load::matrix2(b))", "load::matrix2(a)"), ("the other way round", "load::matrix4(a).mul(load::matrix4(b))", "load::matrix4(b).mul(load::matrix4(a))")],
+        "arithmetic.rt migthumo_add": [("the difference", "matrix3(a).add", "matrix3(a).sub"), ("one matrix twice", "load::matrix4(b)", "load::matrix4(a)")],
+        "arithmetic.rt migthumo_subtract": [("the other way round", "load::matrix2(a).sub(load::matrix2(b))", "load::matrix2(b).sub(load::matrix2(a))"), ("the sum", "matrix4(a).sub", "matrix4(a).add")],
+        "arithmetic.rt migthumo_scale": [("the matrix itself", ".scalar_mul(s)", ".scalar_mul(1.0)"), ("divided", "matrix4(m).scalar_mul", "matrix4(m).scalar_div")],
+        "arithmetic.rt migthumo_divide": [("the scalar on the right", "matrix2(m).scalar_div", "matrix2(m).div_scalar"), ("times", "matrix4(m).scalar_div", "matrix4(m).scalar_mul")],
+        "arithmetic.rt migthumo_scale_by": [("divided", "matrix2(m).mul_scalar", "matrix2(m).div_scalar"), ("the matrix itself", "matrix4(m).mul_scalar(s)", "matrix4(m).mul_scalar(1.0)")],
+        "arithmetic.rt migthumo_divide_by": [("the scalar on the left", "matrix2(m).div_scalar", "matrix2(m).scalar_div"), ("times", "matrix4(m).div_scalar", "matrix4(m).mul_scalar")],
+        "arithmetic.rt migthumo_negate": [("left as it is", "load::matrix2(m).neg()", "load::matrix2(m)"), ("transposed besides", "load::matrix4(m).neg()", "load::matrix4(m).neg().transpose()")],
+        "exact.rt migthumo_signed_sum": [("of another order", "engine::signed_sum3(load::matrix3(m))", "engine::signed_sum2(load::matrix2(m))"), ("a cofactor", "engine::signed_sum4(load::matrix4(m))", "engine::cofactor4(load::matrix4(m), matrix::Column(0), matrix::Row(0))")],
+        "exact.rt migthumo_undoable": [("of another order", "engine::undoable3(load::matrix3(m))", "engine::undoable2(load::matrix2(m))"), ("always yes", "engine::undoable4(load::matrix4(m))", "engine::UndoableAnswer::Given(true)")],
+        "places.rt migthumo_row": [("always row 0", "matrix2(m).row(Row(r))", "matrix2(m).row(Row(0))"), ("the width of a matrix", "m.len(), 1,", "m.len(), 2,")],
+        "places.rt migthumo_diagonal": [("row 0", "Vector2Answer::Given(load::matrix2(m).diagonal())", "load::matrix2(m).row(Row(0))"), ("of the negative", "load::matrix4(m).diagonal()", "load::matrix4(m).neg().diagonal()")],
+        "places.rt migthumo_transpose": [("left as it is", "load::matrix2(m).transpose()", "load::matrix2(m)"), ("twice", "load::matrix4(m).transpose()", "load::matrix4(m).transpose().transpose()")],
+        "places.rt migthumo_swap_rows": [("columns for rows", "matrix2(m).swap_rows(Row(a), Row(b))", "matrix2(m).swap_columns(Column(a), Column(b))"), ("nothing exchanged", "matrix4(m).swap_rows(Row(a), Row(b))", "matrix4(m).swap_rows(Row(a), Row(a))")],
+        "places.rt migthumo_swap_columns": [("rows for columns", "matrix2(m).swap_columns(Column(a), Column(b))", "matrix2(m).swap_rows(Row(a), Row(b))"), ("nothing exchanged", "matrix4(m).swap_columns(Column(a), Column(b))", "matrix4(m).swap_columns(Column(a), Column(a))")],
+        "places.rt migthumo_swap_elements": [("a place row first", "Column(ac), Row(ar)", "Column(ar), Row(ac)"), ("one place twice", "Column(bc), Row(br)", "Column(ac), Row(ar)")],
+        "records.rt migthumo_embed": [("2 in 3 transposed", "Matrix3::from_matrix2(load::matrix2(m))", "Matrix3::from_matrix2(load::matrix2(m).transpose())"), ("2 in 4 by way of the identity", "Matrix4::from_matrix2(load::matrix2(m))", "Matrix4::identity()")],
+        "rotations.rt migthumo_from_angle": [("sine for cosine", "from_angle(s, c)", "from_angle(c, s)"), ("any length taken", "!= 4", "!= 5")],
+        "rotations.rt migthumo_from_angle_x": [("around y", "Matrix3::from_angle_x", "Matrix3::from_angle_y"), ("the other way", "Matrix4::from_angle_x(s, c)", "Matrix4::from_angle_x(c, s)")],
+        "rotations.rt migthumo_from_angle_y": [("around z", "Matrix3::from_angle_y", "Matrix3::from_angle_z"), ("the other way", "Matrix4::from_angle_y(s, c)", "Matrix4::from_angle_y(c, s)")],
+        "rotations.rt migthumo_from_angle_z": [("around x", "Matrix3::from_angle_z", "Matrix3::from_angle_x"), ("the other way", "Matrix4::from_angle_z(s, c)", "Matrix4::from_angle_z(c, s)")],
+        "rotations.rt migthumo_from_axis_angle": [("the axis turned", "Vector3::new(x, y, z)", "Vector3::new(z, y, x)"), ("sine for cosine", "z), s, c)", "z), c, s)")],
+        "in_place.rt said": [("done answers 1", "Done => 0", "Done => 1"), ("a refusal answers 0", "cause.number()", "0")],
+        "in_place.rt migthumo_swap_rows_mut": [("the first number twice", "Row(a), Row(b)", "Row(a), Row(a)"), ("another number", "Row(b)", "Row(1)")],
+        "in_place.rt migthumo_swap_columns_mut": [("the first number twice", "Column(a), Column(b)", "Column(a), Column(a)"), ("another number", "Column(b)", "Column(1)")],
+        "in_place.rt migthumo_swap_elements_mut": [("a place row first", "Column(ac), Row(ar)", "Column(ar), Row(ac)"), ("one place twice", "Column(bc), Row(br)", "Column(ac), Row(ar)")],
+    },
     "bits": {
         "lib.rt pattern": [("0 for every NaN", "{ NAN }", "{ 0 }"), ("the test turned round", "x != x", "x == x")],
         "lib.rt number": [("0.0 for a NaN's pattern", "0.0 / 0.0", "0.0"), ("infinities read as NaN", "> 0x7ff0", ">= 0x7ff0")],
@@ -129,7 +176,7 @@ def places():
 def body_of(text, record, function):
     """Where the body of a function stands: in an impl of its record that has it, or at the top of the file."""
     if record is None:
-        m = re.search(r"^(?:pub(?:\(crate\))? )?fn %s\(" % function, text, re.M)
+        m = re.search(r"^(?:pub(?:\(crate\))? )?(?:extern \"C\" )?fn %s\(" % function, text, re.M)
         start = m.end()
         stop = text.index("\n}\n", start)
     else:
@@ -165,9 +212,12 @@ def try_all(crate, k, rows):
     bad = []
     for _, file, record, function, _, what, old, new in rows:
         name = f"{record}::{function}" if record else function
-        line = next((l for l in log.split("\n") if re.match(r"fn %s::(\w+::)*%s: " % (crate, re.escape(name)), l)), "")
-        folder = f"/{record}/{function}/Proof.antt" if record else f"/{function}/Proof.antt"
-        own = "`search` does not close" in line or any(
+        module = "" if record or file == "lib.rt" else file[:-3]
+        line = next((l for l in log.split("\n") if re.match(r"fn %s::(\w+::)*%s: " % (crate, re.escape(f"{module}::{name}" if module else name)), l)), "")
+        folder = f"/{record or module}/{function}/Proof.antt".replace("//", "/")
+        # a walk by hand that no longer goes through is told by the line of the function alone
+        walked = "the borrow checker does not cover" in line and "not proved" in line
+        own = walked or "`search` does not close" in line or any(
             folder in l and ": error: " in l and "was not admitted" not in l for l in log.split("\n"))
         print(f"{'refused' if own else 'NOT REFUSED'}: {crate} {name}: {what}", flush=True)
         if not own:
