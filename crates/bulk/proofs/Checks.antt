@@ -12,7 +12,7 @@ use Rattle.vector.specs.Refusals.{Outcome, given, refused, refusedFor, after, d
 use Rattle.matrix.proofs.Ranges.{both}
 use Rattle.bulk.specs.declared.Moved.{Moved}
 use Rattle.bulk.specs.declared.Moved.the-variants.{Done, Refused}
-use Rattle.bulk.specs.Refusals.{movedOutcome, orderFrom, lengthIs, fits, Fits}
+use Rattle.bulk.specs.Refusals.{movedOutcome, orderFrom, numberIs, fits, Fits}
 
 -- ---- the order
 
@@ -34,12 +34,12 @@ square-small order most = mul-le-mul most most
 
 -- ---- a length
 
-pub length-right : (cause : Refusal) (length wanted : ℕ) → length ≡ wanted → lengthIs cause length wanted ≡ given tt
-unfolding lengthIs
+pub length-right : (cause : Refusal) (length wanted : ℕ) → length ≡ wanted → numberIs cause length wanted ≡ given tt
+unfolding numberIs
 length-right cause length wanted e = simp (eq-eqb length wanted e)
 
-pub length-wrong : (cause : Refusal) (length wanted : ℕ) → (length ≡ wanted → ⊥) → lengthIs cause length wanted ≡ refusedFor cause
-unfolding lengthIs
+pub length-wrong : (cause : Refusal) (length wanted : ℕ) → (length ≡ wanted → ⊥) → numberIs cause length wanted ≡ refusedFor cause
+unfolding numberIs
 length-wrong cause length wanted ne = simp (ne-eqb length wanted ne)
 
 -- ---- where none refuses
@@ -59,8 +59,8 @@ order-is least order e =
     let t = both-true _ _ (passed _ 5 e) in
     (leb-true least order (t .0), leb-true order 4 (t .1))
 
-pub length-is : (cause : Refusal) (length wanted : ℕ) → lengthIs cause length wanted ≡ given tt → length ≡ wanted
-unfolding lengthIs
+pub length-is : (cause : Refusal) (length wanted : ℕ) → numberIs cause length wanted ≡ given tt → length ≡ wanted
+unfolding numberIs
 length-is cause length wanted e = eqb-true length wanted (passed _ _ e)
 
 pub fitting : (short order matrix input output : ℕ) → fits short order matrix input output ≡ given tt → Fits short order matrix input output

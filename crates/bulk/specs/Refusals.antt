@@ -19,18 +19,18 @@ movedOutcome (Refused cause) = refusedFor cause
 unfoldable pub orderFrom : ℕ → ℕ → Outcome Unit
 orderFrom least order = cond (leb least order && leb order 4) (given tt) (refusedFor Order)
 
--- refused for this cause unless the length is the one wanted
-unfoldable pub lengthIs : Refusal → ℕ → ℕ → Outcome Unit
-lengthIs cause length wanted = cond (eqb length wanted) (given tt) (refusedFor cause)
+-- refused for this cause unless the number, a length or what is left over, is the one wanted
+unfoldable pub numberIs : Refusal → ℕ → ℕ → Outcome Unit
+numberIs cause length wanted = cond (eqb length wanted) (given tt) (refusedFor cause)
 
 -- the order, then the matrix of order² numbers, then whole vectors or points, then an output as long as these:
 -- `short` is 0 for vectors; it is 1 for points, which are one number shorter than the order and start at order 3
 unfoldable pub fits : ℕ → ℕ → ℕ → ℕ → ℕ → Outcome Unit
 fits short order matrix input output =
     after (orderFrom (2 + short) order)
-    (after (lengthIs InputLength matrix (order * order))
-    (after (lengthIs InputLength (input % (order - short)) 0)
-    (lengthIs OutputLength output input)))
+    (after (numberIs InputLength matrix (order * order))
+    (after (numberIs InputLength (input % (order - short)) 0)
+    (numberIs OutputLength output input)))
 
 -- what holds where none of these is refused
 pub record Fits (short order matrix input output : ℕ) : Type 0 where

@@ -40,7 +40,7 @@ fn check(short: usize, order: usize, matrix: usize, input: usize, output: usize)
     Moved::Done
 }
 
-// Every vector times the matrix, a flat slice of its columns, into the output.
+// The matrix, a flat slice of its columns, times every vector, into the output.
 pub fn move_vectors(order: usize, matrix: &[f64], vectors: &[f64], output: &mut [f64]) -> Moved
     ensures answers { λ r. ⌜ movedOutcome r ≡ done (moveVectors order (now (matrix .entry)) (now (vectors .entry)) (now (output .entry))) ⌝ }
     ensures writes { λ _. ⌜ now (output .exit) ≡ leaves (now (output .entry)) (moveVectors order (now (matrix .entry)) (now (vectors .entry)) (now (output .entry))) ⌝ }
@@ -54,7 +54,7 @@ pub fn move_vectors(order: usize, matrix: &[f64], vectors: &[f64], output: &mut 
     }
 }
 
-// Every point, extended by 1, times the matrix, without its last coordinate, into the output.
+// The matrix times every point extended by 1, without the last coordinate, into the output.
 pub fn move_points(order: usize, matrix: &[f64], points: &[f64], output: &mut [f64]) -> Moved
     ensures answers { λ r. ⌜ movedOutcome r ≡ done (movePoints order (now (matrix .entry)) (now (points .entry)) (now (output .entry))) ⌝ }
     ensures writes { λ _. ⌜ now (output .exit) ≡ leaves (now (output .entry)) (movePoints order (now (matrix .entry)) (now (points .entry)) (now (output .entry))) ⌝ }

@@ -1,4 +1,5 @@
--- Demand 3, line by line, each line said once over the order, of the very definitions that the promises of `matrix` cite.
+-- Demand 3 of the three that stand over the whole project (README.md has it in full), line by line; what stands in quotation marks is its text.
+-- Each line is said once over the order, of the very definitions that the promises of `matrix` cite.
 -- The record `Port` hands an order's definitions to the statements. Their proofs stand in proofs/Two.antt, Three.antt and Four.antt, over proofs/General.antt. Assumes nothing.
 use mathlib.Core.Path.{_≡_}
 use mathlib.Core.Logic.{_↔_}
@@ -120,7 +121,7 @@ Meaning p limit = (m : p .Matrix) → WholeEntries p limit m ↔ ((c r : ℕ) �
 abbrev pub OwnNumbers : Port → ℕ → Type 0
 OwnNumbers p limit = (m : p .Matrix) → WholeEntries p limit m → (c r : ℕ) → c < p .order → r < p .order → Exact (p .entries m c r) (numbers (p .entries m) c r) 0
 
--- at the engine's own limit: no number and no yes or no exactly elsewhere
+-- the engine refuses with 6, giving no number and no yes or no, exactly where some entry is not a whole number within its limit
 abbrev pub RefusedElsewhere : Port → Type 0
 RefusedElsewhere p = (m : p .Matrix) → ((signedSum (p .order) (p .entries m) ≡ refused 6) ↔ ¬ WholeEntries p 1024 m) × ((undoable (p .order) (p .entries m) ≡ refused 6) ↔ ¬ WholeEntries p 1024 m)
 

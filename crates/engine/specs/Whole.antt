@@ -16,7 +16,7 @@ use Rattle.matrix.specs.declared.records.Matrix4.{Matrix4}
 
 -- ---- the test of one entry
 
--- the whole number of a float, -0.0 being 0; it counts only where the test below passes
+-- the whole number of a float, as an i64 takes it (63 bits and a sign), -0.0 being 0; it counts only where the test below passes
 abbrev pub wholeNumber : Float → ℤ
 wholeNumber x = toSigned 63 x
 

@@ -12,7 +12,7 @@ use Rattle.vector.specs.declared.refusal.Refusal.{Refusal}
 use Rattle.vector.specs.declared.refusal.Refusal.the-variants.{OutOfRange, Singular, InputLength, OutputLength, Order, NotWhole}
 use Rattle.vector.specs.Refusals.{Outcome, given, refused, refusedFor, number, after}
 use Rattle.matrix.proofs.Ranges.{both}
-use Rattle.bulk.specs.Refusals.{orderFrom, lengthIs}
+use Rattle.bulk.specs.Refusals.{orderFrom, numberIs}
 use Rattle.bulk.proofs.Checks.{passed, both-true, order-is, length-is}
 use Rattle.migthumo.specs.Entries.{code, lengthsAre, fits, ordersEmbed, fitsTo}
 
@@ -51,8 +51,8 @@ clear-order : (least order : ℕ) → Clear (orderFrom least order)
 unfolding orderFrom
 clear-order least order = clear-test (leb least order && leb order 4) Order
 
-clear-length : (cause : Refusal) (length wanted : ℕ) → Clear (lengthIs cause length wanted)
-unfolding lengthIs
+clear-length : (cause : Refusal) (length wanted : ℕ) → Clear (numberIs cause length wanted)
+unfolding numberIs
 clear-length cause length wanted = clear-test (eqb length wanted) cause
 
 -- and with two tests, one after the other
@@ -62,7 +62,7 @@ clear-after (refused n) second one two e = one e
 
 clear-lengths : (inputs : List ℕ) (wanted : ℕ) → Clear (lengthsAre inputs wanted)
 clear-lengths [] wanted e = refl
-clear-lengths (n ∷ inputs) wanted e = clear-after (lengthIs InputLength n wanted) (lengthsAre inputs wanted) (clear-length InputLength n wanted) (clear-lengths inputs wanted) e
+clear-lengths (n ∷ inputs) wanted e = clear-after (numberIs InputLength n wanted) (lengthsAre inputs wanted) (clear-length InputLength n wanted) (clear-lengths inputs wanted) e
 
 -- ---- an entry by the order
 
@@ -78,8 +78,8 @@ pub fitted : (least order : ℕ) (inputs : List ℕ) (width out r : ℕ) → r �
 unfolding fits
 fitted least order inputs width out r is clear =
     let passes =
-    clear-after (orderFrom least order) (after (lengthsAre inputs (order * order)) (lengthIs OutputLength out (order ^ width))) (clear-order least order)
-    (clear-after (lengthsAre inputs (order * order)) (lengthIs OutputLength out (order ^ width)) (clear-lengths inputs (order * order)) (clear-length OutputLength out (order ^ width)))
+    clear-after (orderFrom least order) (after (lengthsAre inputs (order * order)) (numberIs OutputLength out (order ^ width))) (clear-order least order)
+    (clear-after (lengthsAre inputs (order * order)) (numberIs OutputLength out (order ^ width)) (clear-lengths inputs (order * order)) (clear-length OutputLength out (order ^ width)))
     (sym is ∙ clear) in
     let a = both _ _ passes in
     let b = both _ _ (a .1) in
@@ -101,7 +101,7 @@ module _ {least order : ℕ} {inputs : List ℕ} {width out : ℕ} (f : Fitted l
 -- each input has the length wanted where none is refused
 first-is : (a wanted : ℕ) (inputs : List ℕ) → lengthsAre (a ∷ inputs) wanted ≡ given tt → (a ≡ wanted) × (lengthsAre inputs wanted ≡ given tt)
 first-is a wanted inputs e =
-    let b = both (lengthIs InputLength a wanted) (lengthsAre inputs wanted) e in
+    let b = both (numberIs InputLength a wanted) (lengthsAre inputs wanted) e in
     (length-is InputLength a wanted (b .0), b .1)
 
 -- the first input, and the second, are matrices of the order
@@ -120,7 +120,7 @@ twice (refused n) p = refl
 pub named-once : (least order m width out : ℕ) → fits least order (m ∷ m ∷ []) width out ≡ fits least order (m ∷ []) width out
 unfolding fits
 named-once least order m width out =
-    ap (λ (o : Outcome Unit). after (orderFrom least order) (after o (lengthIs OutputLength out (order ^ width)))) (twice (lengthIs InputLength m (order * order)) (given tt))
+    ap (λ (o : Outcome Unit). after (orderFrom least order) (after o (numberIs OutputLength out (order ^ width)))) (twice (numberIs InputLength m (order * order)) (given tt))
 
 -- ---- an embedding
 
@@ -164,8 +164,8 @@ pub embedded : (order to m out r : ℕ) → r ≡ code (fitsTo order to m out) �
 unfolding fitsTo
 embedded order to m out r is clear =
     let passes =
-    clear-after (ordersEmbed order to) (after (lengthIs InputLength m (order * order)) (lengthIs OutputLength out (to * to))) (clear-orders order to)
-    (clear-after (lengthIs InputLength m (order * order)) (lengthIs OutputLength out (to * to)) (clear-length InputLength m (order * order)) (clear-length OutputLength out (to * to)))
+    clear-after (ordersEmbed order to) (after (numberIs InputLength m (order * order)) (numberIs OutputLength out (to * to))) (clear-orders order to)
+    (clear-after (numberIs InputLength m (order * order)) (numberIs OutputLength out (to * to)) (clear-length InputLength m (order * order)) (clear-length OutputLength out (to * to)))
     (sym is ∙ clear) in
     let a = both _ _ passes in
     let b = both _ _ (a .1) in

@@ -3,10 +3,11 @@
 use mathlib.Core.Path.{_≡_, refl, ap, _∙_}
 use mathlib.Core.List.{List, [], _∷_}
 use Prim.Native.Nat.{ℕ}
+use mathlib.Core.Bool.{cond}
+use lib.Dec.{eqb}
 use lib.Ieee.{Float}
 use lib.ListN.{length}
-use Rattle.vector.specs.declared.refusal.Refusal.the-variants.{Order}
-use Rattle.vector.specs.Refusals.{Outcome, given, refused, refusedFor, after, done, leaves}
+use Rattle.vector.specs.Refusals.{Outcome, given, refused, after, done, leaves}
 use Rattle.matrix.specs.declared.records.Matrix2.{Matrix2}
 use Rattle.matrix.specs.declared.records.Matrix3.{Matrix3}
 use Rattle.matrix.specs.declared.records.Matrix4.{Matrix4}
@@ -37,7 +38,7 @@ module _ {A : Type 0} {r : ℕ} {entry : List A} where
 pub stopped-rotation : {r : ℕ} {entry : List Float} (order out : ℕ) (three : Matrix3) (four : Matrix4) → r ≡ code (fits 3 order [] 2 out) → (r ≡ 0 → ⊥) → Answers r entry entry (rotationOf order out three four)
 unfolding rotationOf
 stopped-rotation order out three four is found =
-    stopped (fits 3 order [] 2 out) (byOrder order (refusedFor Order) (given (numbers3 three)) (given (numbers4 four))) is found
+    stopped (fits 3 order [] 2 out) (cond (eqb order 3) (given (numbers3 three)) (given (numbers4 four))) is found
 
 pub stopped-embedding : {r : ℕ} {entry : List Float} (order to : ℕ) (m : List Float) (out : ℕ) → r ≡ code (fitsTo order to (length m) out) → (r ≡ 0 → ⊥) → Answers r entry entry (embed order to m out)
 unfolding embed

@@ -1,4 +1,5 @@
 pub mod Checks
+pub mod Decided
 pub mod Flat
 pub mod Entries
 pub mod InPlace

@@ -7,9 +7,9 @@ use lib.Dec.{eqb}
 use mathlib.Core.Bool.{cond}
 use lib.IntN.{ℤ}
 use lib.Ieee.{Float}
-use Rattle.vector.specs.Refusals.{Outcome, given, refusedFor, after}
-use Rattle.vector.specs.Vectors.{vector3, entries2, entries3, entries4}
-use Rattle.vector.specs.declared.refusal.Refusal.the-variants.{OutputLength, Order}
+use Rattle.vector.specs.Refusals.{Outcome, given, after}
+use Rattle.vector.specs.Vectors.{entries2, entries3, entries4}
+use Rattle.vector.specs.declared.refusal.Refusal.the-variants.{OutputLength}
 use Rattle.vector.specs.declared.Vector2.{Vector2}
 use Rattle.vector.specs.declared.Vector3.{Vector3}
 use Rattle.vector.specs.declared.Vector4.{Vector4}
@@ -26,7 +26,7 @@ use Rattle.matrix.specs.declared.places.Row.{Row}
 use Rattle.engine.specs.Whole.{floats2, floats3, floats4}
 use Rattle.engine.specs.Engine as engine
 use Rattle.bulk.specs.Moves.{flat2, flat3, flat4}
-use Rattle.bulk.specs.Refusals.{lengthIs}
+use Rattle.bulk.specs.Refusals.{numberIs}
 use Rattle.migthumo.specs.Entries.{fits, fitsTo, byOrder, over}
 use Rattle.migthumo.specs.Flat.{numbers2, numbers3, numbers4, alone, flag}
 
@@ -46,15 +46,15 @@ ofTwo width order a b out f g h =
 -- a rotation, of no matrix, at order 3 or 4
 unfoldable pub rotationOf : ℕ → ℕ → Matrix3 → Matrix4 → Outcome (List Float)
 rotationOf order out three four =
-    after (fits 3 order [] 2 out) (byOrder order (refusedFor Order) (given (numbers3 three)) (given (numbers4 four)))
+    after (fits 3 order [] 2 out) (cond (eqb order 3) (given (numbers3 three)) (given (numbers4 four)))
 
 -- a matrix of one matrix
 abbrev pub matrixOf : ℕ → List Float → ℕ → (Matrix2 → Outcome Matrix2) → (Matrix3 → Outcome Matrix3) → (Matrix4 → Outcome Matrix4) → Outcome (List Float)
-matrixOf order m out f g h = ofOne 2 order m out (λ m. over numbers2 (f m)) (λ m. over numbers3 (g m)) (λ m. over numbers4 (h m))
+matrixOf order m out f g h = ofOne 2 order m out (λ x. over numbers2 (f x)) (λ x. over numbers3 (g x)) (λ x. over numbers4 (h x))
 
 -- a vector of one matrix
 abbrev pub vectorOf : ℕ → List Float → ℕ → (Matrix2 → Outcome Vector2) → (Matrix3 → Outcome Vector3) → (Matrix4 → Outcome Vector4) → Outcome (List Float)
-vectorOf order m out f g h = ofOne 1 order m out (λ m. over entries2 (f m)) (λ m. over entries3 (g m)) (λ m. over entries4 (h m))
+vectorOf order m out f g h = ofOne 1 order m out (λ x. over entries2 (f x)) (λ x. over entries3 (g x)) (λ x. over entries4 (h x))
 
 -- a matrix of two matrices
 abbrev pub matrixOfTwo : ℕ → List Float → List Float → ℕ → (Matrix2 → Matrix2 → Matrix2) → (Matrix3 → Matrix3 → Matrix3) → (Matrix4 → Matrix4 → Matrix4) → Outcome (List Float)
@@ -64,7 +64,7 @@ matrixOfTwo order a b out f g h = ofTwo 2 order a b out (λ a b. given (numbers2
 
 abbrev pub determinant : ℕ → List Float → ℕ → Outcome (List Float)
 determinant order m out =
-    ofOne 0 order m out (λ m. given (alone (inverse.det2 m))) (λ m. given (alone (inverse.det3 m))) (λ m. given (alone (inverse.det4 m)))
+    ofOne 0 order m out (λ x. given (alone (inverse.det2 x))) (λ x. given (alone (inverse.det3 x))) (λ x. given (alone (inverse.det4 x)))
 
 abbrev pub invert : ℕ → List Float → ℕ → Outcome (List Float)
 invert order m out = matrixOf order m out inverse.invert2 inverse.invert3 inverse.invert4
@@ -83,66 +83,65 @@ subtract order a b out = matrixOfTwo order a b out arithmetic.sub2 arithmetic.su
 -- the scalar on the left: times the matrix, divided by the matrix
 abbrev pub scale : ℕ → Float → List Float → ℕ → Outcome (List Float)
 scale order s m out =
-    matrixOf order m out (λ m. given (arithmetic.scalarMul2 s m)) (λ m. given (arithmetic.scalarMul3 s m)) (λ m. given (arithmetic.scalarMul4 s m))
+    matrixOf order m out (λ x. given (arithmetic.scalarMul2 s x)) (λ x. given (arithmetic.scalarMul3 s x)) (λ x. given (arithmetic.scalarMul4 s x))
 
 abbrev pub divide : ℕ → Float → List Float → ℕ → Outcome (List Float)
 divide order s m out =
-    matrixOf order m out (λ m. given (arithmetic.scalarDiv2 s m)) (λ m. given (arithmetic.scalarDiv3 s m)) (λ m. given (arithmetic.scalarDiv4 s m))
+    matrixOf order m out (λ x. given (arithmetic.scalarDiv2 s x)) (λ x. given (arithmetic.scalarDiv3 s x)) (λ x. given (arithmetic.scalarDiv4 s x))
 
--- the scalar on the right: the matrix times it, the matrix divided by it
+-- beyond document 01's list, as in `matrix`: the scalar on the right, and every sign turned
 abbrev pub scaleBy : ℕ → List Float → Float → ℕ → Outcome (List Float)
 scaleBy order m s out =
-    matrixOf order m out (λ m. given (arithmetic.mulScalar2 m s)) (λ m. given (arithmetic.mulScalar3 m s)) (λ m. given (arithmetic.mulScalar4 m s))
+    matrixOf order m out (λ x. given (arithmetic.mulScalar2 x s)) (λ x. given (arithmetic.mulScalar3 x s)) (λ x. given (arithmetic.mulScalar4 x s))
 
 abbrev pub divideBy : ℕ → List Float → Float → ℕ → Outcome (List Float)
 divideBy order m s out =
-    matrixOf order m out (λ m. given (arithmetic.divScalar2 m s)) (λ m. given (arithmetic.divScalar3 m s)) (λ m. given (arithmetic.divScalar4 m s))
+    matrixOf order m out (λ x. given (arithmetic.divScalar2 x s)) (λ x. given (arithmetic.divScalar3 x s)) (λ x. given (arithmetic.divScalar4 x s))
 
--- every sign turned
 abbrev pub negate : ℕ → List Float → ℕ → Outcome (List Float)
 negate order m out =
-    matrixOf order m out (λ m. given (arithmetic.neg2 m)) (λ m. given (arithmetic.neg3 m)) (λ m. given (arithmetic.neg4 m))
+    matrixOf order m out (λ x. given (arithmetic.neg2 x)) (λ x. given (arithmetic.neg3 x)) (λ x. given (arithmetic.neg4 x))
 
 -- ---- the exact engine
 
 abbrev pub signedSum : ℕ → List Float → ℕ → Outcome (List ℤ)
 signedSum order m out =
     ofOne 0 order m out
-    (λ m. over alone (engine.signedSum 2 (floats2 m)))
-    (λ m. over alone (engine.signedSum 3 (floats3 m)))
-    (λ m. over alone (engine.signedSum 4 (floats4 m)))
+    (λ x. over alone (engine.signedSum 2 (floats2 x)))
+    (λ x. over alone (engine.signedSum 3 (floats3 x)))
+    (λ x. over alone (engine.signedSum 4 (floats4 x)))
 
 abbrev pub undoable : ℕ → List Float → ℕ → Outcome (List ℕ)
 undoable order m out =
     ofOne 0 order m out
-    (λ m. over flag (engine.undoable 2 (floats2 m)))
-    (λ m. over flag (engine.undoable 3 (floats3 m)))
-    (λ m. over flag (engine.undoable 4 (floats4 m)))
+    (λ x. over flag (engine.undoable 2 (floats2 x)))
+    (λ x. over flag (engine.undoable 3 (floats3 x)))
+    (λ x. over flag (engine.undoable 4 (floats4 x)))
 
 -- ---- places
 
 abbrev pub transpose : ℕ → List Float → ℕ → Outcome (List Float)
 transpose order m out =
-    matrixOf order m out (λ m. given (places.transpose2 m)) (λ m. given (places.transpose3 m)) (λ m. given (places.transpose4 m))
+    matrixOf order m out (λ x. given (places.transpose2 x)) (λ x. given (places.transpose3 x)) (λ x. given (places.transpose4 x))
 
 abbrev pub swapRows : ℕ → Row → Row → List Float → ℕ → Outcome (List Float)
 swapRows order a b m out =
-    matrixOf order m out (λ m. places.swapRows2 m a b) (λ m. places.swapRows3 m a b) (λ m. places.swapRows4 m a b)
+    matrixOf order m out (λ x. places.swapRows2 x a b) (λ x. places.swapRows3 x a b) (λ x. places.swapRows4 x a b)
 
 abbrev pub swapColumns : ℕ → Column → Column → List Float → ℕ → Outcome (List Float)
 swapColumns order a b m out =
-    matrixOf order m out (λ m. places.swapColumns2 m a b) (λ m. places.swapColumns3 m a b) (λ m. places.swapColumns4 m a b)
+    matrixOf order m out (λ x. places.swapColumns2 x a b) (λ x. places.swapColumns3 x a b) (λ x. places.swapColumns4 x a b)
 
 abbrev pub swapElements : ℕ → Column → Row → Column → Row → List Float → ℕ → Outcome (List Float)
 swapElements order ac ar bc br m out =
-    matrixOf order m out (λ m. places.swapElements2 m ac ar bc br) (λ m. places.swapElements3 m ac ar bc br) (λ m. places.swapElements4 m ac ar bc br)
+    matrixOf order m out (λ x. places.swapElements2 x ac ar bc br) (λ x. places.swapElements3 x ac ar bc br) (λ x. places.swapElements4 x ac ar bc br)
 
 abbrev pub row : ℕ → Row → List Float → ℕ → Outcome (List Float)
-row order r m out = vectorOf order m out (λ m. places.row2 m r) (λ m. places.row3 m r) (λ m. places.row4 m r)
+row order r m out = vectorOf order m out (λ x. places.row2 x r) (λ x. places.row3 x r) (λ x. places.row4 x r)
 
 abbrev pub diagonal : ℕ → List Float → ℕ → Outcome (List Float)
 diagonal order m out =
-    vectorOf order m out (λ m. given (places.diagonal2 m)) (λ m. given (places.diagonal3 m)) (λ m. given (places.diagonal4 m))
+    vectorOf order m out (λ x. given (places.diagonal2 x)) (λ x. given (places.diagonal3 x)) (λ x. given (places.diagonal4 x))
 
 -- ---- embeddings and rotations
 
@@ -157,7 +156,7 @@ embed order to m out = after (fitsTo order to (length m) out) (embedOf order to 
 
 -- order 2 alone
 abbrev pub fromAngle : Float → Float → ℕ → Outcome (List Float)
-fromAngle s c out = after (lengthIs OutputLength out 4) (given (numbers2 (rotations.fromAngle2 s c)))
+fromAngle s c out = after (numberIs OutputLength out 4) (given (numbers2 (rotations.fromAngle2 s c)))
 
 -- orders 3 and 4
 abbrev pub fromAngleX : ℕ → Float → Float → ℕ → Outcome (List Float)

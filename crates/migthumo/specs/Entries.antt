@@ -7,9 +7,9 @@ use mathlib.Core.List.{List, [], _∷_}
 use lib.Dec.{leb, ltb, eqb}
 use Rattle.vector.specs.declared.refusal.Refusal.the-variants.{InputLength, OutputLength, Order}
 use Rattle.vector.specs.Refusals.{Outcome, given, refused, refusedFor, after, leaves}
-use Rattle.bulk.specs.Refusals.{orderFrom, lengthIs}
+use Rattle.bulk.specs.Refusals.{orderFrom, numberIs}
 
--- the number answered: 0, or that of the refusal
+-- the number answered: that of the refusal, or 0, which is no refusal's
 abbrev pub code : {A : Type 0} → Outcome A → ℕ
 code (given _) = 0
 code (refused n) = n
@@ -27,7 +27,7 @@ over f (refused n) = refused n
 -- refusal 3 unless each input has the length wanted
 abbrev pub lengthsAre : List ℕ → ℕ → Outcome Unit
 lengthsAre [] wanted = given tt
-lengthsAre (n ∷ inputs) wanted = after (lengthIs InputLength n wanted) (lengthsAre inputs wanted)
+lengthsAre (n ∷ inputs) wanted = after (numberIs InputLength n wanted) (lengthsAre inputs wanted)
 
 -- the order, from the least one that the entry takes; each input, a matrix of order² numbers; the output,
 -- one number at width 0, a vector of `order` numbers at 1, a matrix of order² at 2
@@ -35,7 +35,7 @@ unfoldable pub fits : ℕ → ℕ → List ℕ → ℕ → ℕ → Outcome Unit
 fits least order inputs width output =
     after (orderFrom least order)
     (after (lengthsAre inputs (order * order))
-    (lengthIs OutputLength output (order ^ width)))
+    (numberIs OutputLength output (order ^ width)))
 
 -- refusal 5 unless the orders are 2 in 3, 2 in 4 or 3 in 4
 unfoldable pub ordersEmbed : ℕ → ℕ → Outcome Unit
@@ -45,8 +45,8 @@ ordersEmbed order to = cond (leb 2 order && (ltb order to && leb to 4)) (given t
 unfoldable pub fitsTo : ℕ → ℕ → ℕ → ℕ → Outcome Unit
 fitsTo order to input output =
     after (ordersEmbed order to)
-    (after (lengthIs InputLength input (order * order))
-    (lengthIs OutputLength output (to * to)))
+    (after (numberIs InputLength input (order * order))
+    (numberIs OutputLength output (to * to)))
 
 -- what stands for the order, which is 2, 3 or 4
 abbrev pub byOrder : {A : Type 0} → ℕ → A → A → A → A

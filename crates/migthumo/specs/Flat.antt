@@ -1,5 +1,5 @@
--- What an output holds: the numbers of a matrix column after column, one number alone, a yes or no as 1 or 0.
--- Assumes nothing.
+-- What an output holds: the numbers of a matrix column after column, one number alone, a yes or no as 1 or 0;
+-- and the plain numbers handed in as the port's column and row numbers. Assumes nothing.
 use Prim.Native.Nat.{ℕ}
 use mathlib.Core.Bool.{Bool, cond}
 use mathlib.Core.List.{List, [], _∷_, _++_}

@@ -16,7 +16,7 @@ fn said(answer: Moved) -> u32
     }
 }
 
-// Every vector times the matrix; the output is as long as the vectors.
+// The matrix times every vector; the output is as long as the vectors.
 #[no_mangle]
 pub extern "C" fn migthumo_move_vectors(
     order: usize,
@@ -29,7 +29,7 @@ pub extern "C" fn migthumo_move_vectors(
     said(bulk::move_vectors(order, m, vectors, out))
 }
 
-// Every point, extended by 1, times the matrix, without its last coordinate; the output is as long as the points.
+// The matrix times every point extended by 1, without the last coordinate; the output is as long as the points.
 #[no_mangle]
 pub extern "C" fn migthumo_move_points(
     order: usize,

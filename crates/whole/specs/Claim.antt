@@ -11,12 +11,12 @@ use Rattle.whole.specs.Matrix.{Matrix, times, IsMultiple}
 use Rattle.whole.specs.Order.{All, Distinct, Order, sign, down-rows, signed-sum}
 
 -- a matrix a of whole numbers and a nonzero k that have m·a = k·identity at the order n
-abbrev pub Undone : ℕ → Matrix → Type 0
-Undone n m = (a : Matrix) × (k : ℤ) × (k ≢ pos 0) × IsMultiple n (times n m a) k
+abbrev pub HasMultiple : ℕ → Matrix → Type 0
+HasMultiple n m = (a : Matrix) × (k : ℤ) × (k ≢ pos 0) × IsMultiple n (times n m a) k
 
 -- the signed sum is zero exactly if no such a and k exist
 abbrev pub ZeroExactlyIf : ℕ → Matrix → Type 0
-ZeroExactlyIf n m = (signed-sum n m ≡ pos 0) ↔ ¬ Undone n m
+ZeroExactlyIf n m = (signed-sum n m ≡ pos 0) ↔ ¬ HasMultiple n m
 
 -- the list holds each order of n columns once, and nothing else
 pub record ListsOrders (n : ℕ) (l : List (List ℕ)) : Type 0 where
