@@ -14,11 +14,22 @@ const STEP: u64 = 1_000_000;
 #[derive(Clone, Copy)]
 pub struct Entry {
     pub name: &'static str,
+    /// 0 where the order is among what is drawn.
     pub order: usize,
     pub rule: Rule,
     pub against: &'static str,
     /// Whether differences are meant to be there, so that they are counted and not held against us.
     pub intended: bool,
+}
+
+impl Entry {
+    /// The order, or "any" where the order is among what is drawn.
+    pub fn order(&self) -> String {
+        match self.order {
+            0 => "any".to_string(),
+            order => order.to_string(),
+        }
+    }
 }
 
 /// What was counted of it.
@@ -116,7 +127,7 @@ impl Run {
         let unexpected = self.unexpected() + if row.entry.intended { 0 } else { row.differences };
         let (done, expected) = (self.done, self.expected);
         let line =
-            format!("{done} of {expected} cases, {unexpected} differences; {} {}", row.entry.name, row.entry.order);
+            format!("{done} of {expected} cases, {unexpected} differences; {} {}", row.entry.name, row.entry.order());
         if stderr().is_terminal() && done < expected {
             eprint!("\r{line:<78}");
         } else {

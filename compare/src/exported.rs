@@ -1,5 +1,6 @@
-//! Every operation that the static library exports, asked of cgmath by its public names and of Migthumo.
+//! Every operation that the static library exports, asked of cgmath by its public names and of the Rust crate.
 
+use crate::built;
 use crate::cases::{self, Case};
 use crate::classes::Shape;
 use crate::differential::{Entry, Run};
@@ -68,7 +69,7 @@ fn changed_there<M: Entries>(mut m: M, change: impl Fn(&mut M)) -> Answer {
 
 impl Run {
     /// A row of arithmetic on numbers of every class.
-    fn arithmetic(
+    pub fn arithmetic(
         &mut self,
         name: &'static str,
         order: usize,
@@ -80,7 +81,7 @@ impl Run {
     }
 
     /// A row of what only moves numbers.
-    fn carried(
+    pub fn carried(
         &mut self,
         name: &'static str,
         order: usize,
@@ -89,6 +90,19 @@ impl Run {
         ours: impl Fn(&[f64]) -> Answer,
     ) {
         self.numbers(cgmath(name, order, Rule::Bits), shape, theirs, ours);
+    }
+
+    /// A row of what only moves numbers, where the second computation stands for cgmath.
+    pub fn carried_second(
+        &mut self,
+        name: &'static str,
+        order: usize,
+        shape: Shape,
+        theirs: impl Fn(&[f64]) -> Vec<f64>,
+        ours: impl Fn(&[f64]) -> Answer,
+    ) {
+        let entry = Entry { against: "second", ..cgmath(name, order, Rule::Bits) };
+        self.numbers(entry, shape, |x| Answer::Given(theirs(x)), ours);
     }
 
     /// A row on numbers of every class.
@@ -482,4 +496,5 @@ pub fn all(run: &mut Run) {
     rotations3(run);
     rotations4(run);
     flat::all(run);
+    built::all(run);
 }

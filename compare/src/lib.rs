@@ -12,6 +12,8 @@ pub mod second;
 pub mod whole;
 
 #[cfg(feature = "boundary")]
+pub mod built;
+#[cfg(feature = "boundary")]
 pub mod cases;
 #[cfg(feature = "boundary")]
 pub mod differential;

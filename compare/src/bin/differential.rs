@@ -99,7 +99,7 @@ fn slipped(seed: u64) -> bool {
 /// The table, what it is made of, and the first case of each row that differs.
 fn report(run: &Run, seconds: f64) {
     println!(
-        "{:<16} {:>5}  {:<12} {:<8} {:>9} {:>9} {:>12}",
+        "{:<17} {:>5}  {:<12} {:<8} {:>9} {:>9} {:>12}",
         "operation", "order", "held to", "NaN bits", "cases", "refused", "differences"
     );
     for row in &run.rows {
@@ -110,7 +110,7 @@ fn report(run: &Run, seconds: f64) {
     println!("refusals by number:{}", counts(run.refusals.iter()));
     for row in run.rows.iter().filter(|row| row.first.is_some()) {
         let meant = if row.entry.intended { ", which is intended" } else { "" };
-        let (name, order) = (row.entry.name, row.entry.order);
+        let (name, order) = (row.entry.name, row.entry.order());
         println!("\nfirst difference of {name}, order {order}{meant}: {}", row.first.as_deref().unwrap_or_default());
     }
     println!(
@@ -124,12 +124,15 @@ fn report(run: &Run, seconds: f64) {
 /// A line of the table.
 fn line(row: &Row) {
     let entry = row.entry;
-    let order = if entry.order == 0 { "any".to_string() } else { entry.order.to_string() };
     let bits = if entry.rule == compare::rule::Rule::Bits { "compared" } else { "any" };
     let differences = if entry.intended { format!("({})", row.differences) } else { row.differences.to_string() };
     println!(
-        "{:<16} {order:>5}  {:<12} {bits:<8} {:>9} {:>9} {differences:>12}",
-        entry.name, entry.against, row.cases, row.refused
+        "{:<17} {:>5}  {:<12} {bits:<8} {:>9} {:>9} {differences:>12}",
+        entry.name,
+        entry.order(),
+        entry.against,
+        row.cases,
+        row.refused
     );
 }
 
