@@ -1,31 +1,13 @@
 //! What the Rust crate does by itself, without the static library or around it: making matrices of numbers and back,
 //! and the operators that assign.
 
-use crate::classes::Shape;
+use crate::classes::{matrix, numbers, MATRICES};
 use crate::differential::Run;
-use crate::entries::{Entries, Take};
-use crate::list::{given, Answer};
+use crate::entries::Take;
+use crate::list::given;
+use crate::rows::changed_there;
 use crate::second;
 use cgmath::prelude::*;
-
-/// As many numbers.
-const fn numbers(numbers: usize) -> Shape {
-    Shape { matrices: 0, numbers }
-}
-
-/// A matrix, and numbers behind it.
-const fn matrix(numbers: usize) -> Shape {
-    Shape { matrices: 1, numbers }
-}
-
-/// Two matrices.
-const MATRICES: Shape = Shape { matrices: 2, numbers: 0 };
-
-/// A matrix after a change in place.
-fn after<M: Entries>(mut m: M, change: impl Fn(&mut M)) -> Answer {
-    change(&mut m);
-    given(m)
-}
 
 /// What every order has.
 macro_rules! order {
@@ -83,36 +65,36 @@ macro_rules! order {
                 "transpose_self",
                 N,
                 matrix(0),
-                |x| after(theirs(x), |m| m.transpose_self()),
-                |x| after(ours(x), |m| m.transpose_self()),
+                |x| changed_there(theirs(x), |m| m.transpose_self()),
+                |x| changed_there(ours(x), |m| m.transpose_self()),
             );
             run.arithmetic(
                 "+=",
                 N,
                 MATRICES,
-                |x| after(theirs(x), |m| *m += theirs(&x[SQUARE..])),
-                |x| after(ours(x), |m| *m += ours(&x[SQUARE..])),
+                |x| changed_there(theirs(x), |m| *m += theirs(&x[SQUARE..])),
+                |x| changed_there(ours(x), |m| *m += ours(&x[SQUARE..])),
             );
             run.arithmetic(
                 "-=",
                 N,
                 MATRICES,
-                |x| after(theirs(x), |m| *m -= theirs(&x[SQUARE..])),
-                |x| after(ours(x), |m| *m -= ours(&x[SQUARE..])),
+                |x| changed_there(theirs(x), |m| *m -= theirs(&x[SQUARE..])),
+                |x| changed_there(ours(x), |m| *m -= ours(&x[SQUARE..])),
             );
             run.arithmetic(
                 "*= number",
                 N,
                 matrix(1),
-                |x| after(theirs(x), |m| *m *= x[SQUARE]),
-                |x| after(ours(x), |m| *m *= x[SQUARE]),
+                |x| changed_there(theirs(x), |m| *m *= x[SQUARE]),
+                |x| changed_there(ours(x), |m| *m *= x[SQUARE]),
             );
             run.arithmetic(
                 "/= number",
                 N,
                 matrix(1),
-                |x| after(theirs(x), |m| *m /= x[SQUARE]),
-                |x| after(ours(x), |m| *m /= x[SQUARE]),
+                |x| changed_there(theirs(x), |m| *m /= x[SQUARE]),
+                |x| changed_there(ours(x), |m| *m /= x[SQUARE]),
             );
         }
     };

@@ -1,7 +1,7 @@
 //! The cases of the differential run: the classes of input in turn, so that each has the same share of every row.
 
 use crate::bulk::COUNTS;
-use crate::classes::{Class, Shape, CLASSES};
+use crate::classes::{matrix, Class, Shape, CLASSES};
 use crate::random::Random;
 use crate::whole::{with_edge, EDGES, KINDS};
 
@@ -33,9 +33,8 @@ pub fn numbers(random: &mut Random, number: usize, order: usize, shape: Shape) -
 
 /// A matrix of the class whose turn it is, and places: in three rounds of four all below the order.
 pub fn places(random: &mut Random, number: usize, order: usize, count: usize) -> Case {
-    let shape = Shape { matrices: 1, numbers: 0 };
-    let (class, round) = turn(number, shape);
-    let numbers = class.draw(random, order, shape);
+    let (class, round) = turn(number, matrix(0));
+    let numbers = class.draw(random, order, matrix(0));
     let mut places: Vec<usize> = (0..count).map(|_| random.below(order as u64) as usize).collect();
     if round % OUTSIDE_ROUNDS < OUTSIDE_ROUNDS - 1 {
         return Case { class: class.name(), numbers, places };
@@ -70,21 +69,21 @@ pub fn exact(random: &mut Random, number: usize, order: usize) -> Case {
         ("edge", with_edge(random, order, place, edge))
     } else {
         let class = CLASSES[share - KINDS.len() - EDGE_SHARES];
-        (class.name(), class.draw(random, order, Shape { matrices: 1, numbers: 0 }))
+        (class.name(), class.draw(random, order, matrix(0)))
     };
     Case { class, numbers, places: Vec::new() }
 }
 
 /// A matrix, and 0, 1, 2, 3, 7 or 64 vectors of this length.
 pub fn moved(random: &mut Random, number: usize, order: usize, length: usize) -> Case {
-    let (_, round) = turn(number, Shape { matrices: 1, numbers: 0 });
-    numbers(random, number, order, Shape { matrices: 1, numbers: COUNTS[round % COUNTS.len()] * length })
+    let (_, round) = turn(number, matrix(0));
+    numbers(random, number, order, matrix(COUNTS[round % COUNTS.len()] * length))
 }
 
 /// A matrix, an input of any length, and the length of an output: every pair of lengths up to two vectors and more.
 pub fn lengths(random: &mut Random, number: usize, order: usize, length: usize) -> Case {
     let most = 3 * length;
     let (input, output) = (number % most, number / most % most);
-    let case = numbers(random, number / most / most, order, Shape { matrices: 1, numbers: input });
+    let case = numbers(random, number / most / most, order, matrix(input));
     Case { places: vec![output], ..case }
 }

@@ -2,11 +2,11 @@
 //! refusals 5, 3 and 4 by document 01's table, also where a later one would apply, and nothing written.
 
 use crate::cases::Case;
-use crate::classes::{Shape, CLASSES};
+use crate::classes::{numbers, CLASSES};
 use crate::differential::{Entry, Run};
-use crate::exported::output_of;
 use crate::list::Answer;
 use crate::random::Random;
+use crate::rows::output_of;
 use crate::rule::Rule;
 use migthumo::{ffi, Refusal};
 
@@ -178,10 +178,10 @@ impl Flat {
     /// A case: what is handed over in front of the places, the inputs and the scalars as numbers of a class.
     fn case(&self, random: &mut Random, number: usize) -> Case {
         let x = self.lengths(random);
-        let applying = CLASSES.iter().filter(|class| class.applies(Shape { matrices: 0, numbers: 1 }));
+        let applying = CLASSES.iter().filter(|class| class.applies(numbers(1)));
         let left = applying.clone().count();
         let class = applying.clone().nth(number % left).expect("a class");
-        let numbers = class.draw(random, 2, Shape { matrices: 0, numbers: x.a + x.b + SCALARS });
+        let numbers = class.draw(random, 2, numbers(x.a + x.b + SCALARS));
         let mut places = vec![x.order, x.to, x.a, x.b, x.output];
         places.extend((0..PLACES).map(|_| random.below(6) as usize));
         Case { class: class.name(), numbers, places }

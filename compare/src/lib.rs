@@ -26,6 +26,8 @@ pub mod grouping;
 #[cfg(feature = "boundary")]
 pub mod panics;
 #[cfg(feature = "boundary")]
+pub mod rows;
+#[cfg(feature = "boundary")]
 pub mod slips;
 #[cfg(feature = "boundary")]
 pub mod timed;

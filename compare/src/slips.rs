@@ -2,7 +2,7 @@
 //! have to tell each of them from the right one.
 
 use crate::cases;
-use crate::classes::Shape;
+use crate::classes::{matrix, Shape, MATRICES};
 use crate::differential::{Entry, Run};
 use crate::entries::Take;
 use crate::list::{given, inverse, Answer};
@@ -10,14 +10,6 @@ use crate::panics::refusing;
 use crate::rule::Rule;
 use cgmath::prelude::*;
 use cgmath::{Matrix2, Matrix3, Matrix4, Point3, Vector3, Vector4};
-
-/// A matrix, and numbers behind it.
-const fn matrix(numbers: usize) -> Shape {
-    Shape { matrices: 1, numbers }
-}
-
-/// Two matrices.
-const MATRICES: Shape = Shape { matrices: 2, numbers: 0 };
 
 /// Numbers as a matrix of cgmath's.
 fn m2(x: &[f64]) -> Matrix2<f64> {

@@ -2,7 +2,9 @@
 //! that was planted went unseen.
 
 use compare::differential::{Row, Run};
-use compare::{exported, grouping, panics, random::SEED, slips};
+use compare::random::SEED;
+use compare::rule::Rule;
+use compare::{exported, grouping, panics, slips};
 use std::env;
 use std::process::ExitCode;
 use std::time::Instant;
@@ -75,13 +77,20 @@ fn print_grouping() {
 fn planted(seed: u64) -> (u64, bool) {
     let mut run = Run::planted(seed, PLANTED);
     exported::all(&mut run);
-    let unseen = |row: &&Row| !row.entry.intended && row.differences != row.cases;
-    for row in run.rows.iter().filter(unseen) {
-        println!("planted: {} of order {}, {} of {} seen", row.entry.name, row.entry.order, row.differences, row.cases);
+    let held: Vec<&Row> = run.rows.iter().filter(|row| !row.entry.intended).collect();
+    let unseen: Vec<&&Row> = held.iter().filter(|row| row.differences != row.cases).collect();
+    for row in &unseen {
+        println!(
+            "planted: {} of order {}, {} of {} seen",
+            row.entry.name,
+            row.entry.order(),
+            row.differences,
+            row.cases
+        );
     }
-    let (rows, fewer) = (run.rows.len(), run.rows.iter().filter(unseen).count());
-    println!("planted: {rows} rows of {PLANTED} wrong answers each, all of them seen in {} rows\n", rows - fewer);
-    (rows as u64, fewer == 0)
+    let all_seen = held.len() - unseen.len();
+    println!("planted: {} rows of {PLANTED} wrong answers each, all of them seen in {all_seen} rows\n", held.len());
+    (run.rows.len() as u64, unseen.is_empty())
 }
 
 /// Every slip has to be seen.
@@ -124,7 +133,7 @@ fn report(run: &Run, seconds: f64) {
 /// A line of the table.
 fn line(row: &Row) {
     let entry = row.entry;
-    let bits = if entry.rule == compare::rule::Rule::Bits { "compared" } else { "any" };
+    let bits = if entry.rule == Rule::Bits { "compared" } else { "any" };
     let differences = if entry.intended { format!("({})", row.differences) } else { row.differences.to_string() };
     println!(
         "{:<17} {:>5}  {:<12} {bits:<8} {:>9} {:>9} {differences:>12}",
