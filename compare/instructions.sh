@@ -18,10 +18,10 @@ each() {
     echo "$few $many $3 $4 $5" | awk '{ printf "%.1f", ($2 - $1) / ($4 - $3) / $5 }'
 }
 
-printf '%-14s %5s %9s %10s %10s %7s\n' operation order vectors cgmath Migthumo ratio
+printf '%-18s %5s %9s %10s %10s %7s\n' operation order vectors cgmath Migthumo ratio
 "$program" list | while read -r line name order vectors few many; do
     theirs=$(each "$line" cgmath "$few" "$many" "$vectors")
     ours=$(each "$line" migthumo "$few" "$many" "$vectors")
     ratio=$(echo "$theirs $ours" | awk '{ printf "%.2f", $2 / $1 }')
-    printf '%-14s %5s %9s %10s %10s %7s\n' "$name" "$order" "$vectors" "$theirs" "$ours" "$ratio"
+    printf '%-18s %5s %9s %10s %10s %7s\n' "$name" "$order" "$vectors" "$theirs" "$ours" "$ratio"
 done

@@ -4,6 +4,7 @@ use crate::classes::{Class, Shape};
 use crate::entries::Take;
 use crate::random::Random;
 use cgmath::prelude::*;
+use migthumo::{ffi, Refusal};
 use std::hint::black_box;
 
 /// How many inputs an operation goes through, over and over.
@@ -35,7 +36,22 @@ fn single<I: 'static, O: 'static>(
     let inputs: [I; INPUTS] = std::array::from_fn(|_| take(&numbers()));
     Box::new(move |times| {
         for number in 0..times {
-            black_box(does(black_box(&inputs[number % INPUTS])));
+            let result = does(black_box(&inputs[number % INPUTS]));
+            black_box(&result);
+        }
+    })
+}
+
+/// An operation on one flat input after the other, into an output that is kept from call to call.
+fn kept<const OUTPUT: usize>(
+    mut numbers: impl FnMut() -> Vec<f64>,
+    does: impl Fn(&[f64], &mut [f64]) -> Result<(), Refusal> + 'static,
+) -> Work {
+    let inputs: [Vec<f64>; INPUTS] = std::array::from_fn(|_| numbers());
+    let mut out = [0.0; OUTPUT];
+    Box::new(move |times| {
+        for number in 0..times {
+            does(black_box(&inputs[number % INPUTS]), black_box(&mut out)).unwrap();
         }
     })
 }
@@ -107,6 +123,59 @@ macro_rules! singles {
                         |x: &[f64]| (cgmath::$Matrix::<f64>::take(x), cgmath::$Vector::<f64>::take(&x[$n * $n..]));
                     let ours = |x: &[f64]| (migthumo::$Matrix::take(x), migthumo::$Vector::take(&x[$n * $n..]));
                     [single(drawn($n, 1, $n), theirs, |(m, v)| m * v), single(drawn($n, 1, $n), ours, |(m, v)| m * v)]
+                },
+            },
+        ]
+    };
+}
+
+/// The same operations, ours over flat slices into an output that is kept: without a record that is made and copied.
+macro_rules! flats {
+    ($n:expr, $Matrix:ident, $Vector:ident) => {
+        [
+            Timed {
+                name: "determinant, flat",
+                order: $n,
+                vectors: 1,
+                sides: || {
+                    let ours = kept::<1>(drawn($n, 1, 0), |m, out| ffi::determinant($n, m, out));
+                    [single(drawn($n, 1, 0), cgmath::$Matrix::<f64>::take, |m| m.determinant()), ours]
+                },
+            },
+            Timed {
+                name: "invert, flat",
+                order: $n,
+                vectors: 1,
+                sides: || {
+                    let ours = kept::<{ $n * $n }>(drawn($n, 1, 0), |m, out| ffi::invert($n, m, out));
+                    [single(drawn($n, 1, 0), cgmath::$Matrix::<f64>::take, |m| m.invert()), ours]
+                },
+            },
+            Timed {
+                name: "product, flat",
+                order: $n,
+                vectors: 1,
+                sides: || {
+                    let theirs = |x: &[f64]| [x, &x[$n * $n..]].map(cgmath::$Matrix::<f64>::take);
+                    let ours = kept::<{ $n * $n }>(drawn($n, 2, 0), |x, out| {
+                        let (a, b) = x.split_at($n * $n);
+                        ffi::product($n, a, b, out)
+                    });
+                    [single(drawn($n, 2, 0), theirs, |[a, b]| a * b), ours]
+                },
+            },
+            Timed {
+                name: "times_vector, flat",
+                order: $n,
+                vectors: 1,
+                sides: || {
+                    let theirs =
+                        |x: &[f64]| (cgmath::$Matrix::<f64>::take(x), cgmath::$Vector::<f64>::take(&x[$n * $n..]));
+                    let ours = kept::<$n>(drawn($n, 1, $n), |x, out| {
+                        let (m, v) = x.split_at($n * $n);
+                        ffi::move_vectors($n, m, v, out)
+                    });
+                    [single(drawn($n, 1, $n), theirs, |(m, v)| m * v), ours]
                 },
             },
         ]
@@ -185,6 +254,9 @@ pub fn all() -> Vec<Timed> {
     all.extend(singles!(2, Matrix2, Vector2));
     all.extend(singles!(3, Matrix3, Vector3));
     all.extend(singles!(4, Matrix4, Vector4));
+    all.extend(flats!(2, Matrix2, Vector2));
+    all.extend(flats!(3, Matrix3, Vector3));
+    all.extend(flats!(4, Matrix4, Vector4));
     all.extend(moves!(1_000));
     all.extend(moves!(1_000_000));
     all

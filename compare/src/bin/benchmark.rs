@@ -27,6 +27,9 @@ fn main() -> ExitCode {
     ExitCode::SUCCESS
 }
 
+/// How many rounds a line has at least.
+const LEAST: usize = 100;
+
 /// How often a line is done between two looks at the clock.
 fn block(timed: &Timed) -> usize {
     match timed.vectors {
@@ -38,10 +41,10 @@ fn block(timed: &Timed) -> usize {
 
 /// How many rounds a line has.
 fn rounds(timed: &Timed) -> usize {
-    if timed.vectors > 1_000 {
-        60
-    } else {
-        600
+    match timed.vectors {
+        1 => 2_000,
+        1_000 => 1_000,
+        _ => LEAST,
     }
 }
 
@@ -67,12 +70,12 @@ fn seconds(side: &mut Work, times: usize) -> f64 {
 
 /// The table of times.
 fn table() -> Option<()> {
-    println!("nanoseconds of a call, or of one vector of many; the best of {} rounds or more\n", 60);
-    println!("{:<14} {:>5} {:>9} {:>10} {:>10} {:>7}", "operation", "order", "vectors", "cgmath", "Migthumo", "ratio");
+    println!("nanoseconds of a call, or of one vector of many; the best of {LEAST} rounds or more\n");
+    println!("{:<18} {:>5} {:>9} {:>10} {:>10} {:>7}", "operation", "order", "vectors", "cgmath", "Migthumo", "ratio");
     for timed in timed::all() {
         let [theirs, ours] = best(&timed);
         let (name, order, vectors) = (timed.name, timed.order, timed.vectors);
-        println!("{name:<14} {order:>5} {vectors:>9} {theirs:>10.2} {ours:>10.2} {:>7.2}", ours / theirs);
+        println!("{name:<18} {order:>5} {vectors:>9} {theirs:>10.2} {ours:>10.2} {:>7.2}", ours / theirs);
     }
     Some(())
 }
@@ -81,7 +84,7 @@ fn table() -> Option<()> {
 fn list() -> Option<()> {
     for (line, timed) in timed::all().iter().enumerate().filter(|(_, timed)| timed.vectors <= 1_000) {
         let few = if timed.vectors == 1 { 16 * INPUTS } else { 4 };
-        let name = timed.name.replace(' ', "_");
+        let name = timed.name.replace(", ", "_").replace(' ', "_");
         println!("{line} {name} {} {} {few} {}", timed.order, timed.vectors, 3 * few);
     }
     Some(())
