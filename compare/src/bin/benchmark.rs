@@ -27,8 +27,8 @@ fn main() -> ExitCode {
     ExitCode::SUCCESS
 }
 
-/// How many rounds a line has at least.
-const LEAST: usize = 100;
+/// How often the whole table is gone through, so that a time when the machine is busy does not fall on one line alone.
+const PASSES: usize = 8;
 
 /// How often a line is done between two looks at the clock.
 fn block(timed: &Timed) -> usize {
@@ -39,17 +39,17 @@ fn block(timed: &Timed) -> usize {
     }
 }
 
-/// How many rounds a line has.
+/// How many rounds a line has in a pass.
 fn rounds(timed: &Timed) -> usize {
     match timed.vectors {
-        1 => 2_000,
-        1_000 => 1_000,
-        _ => LEAST,
+        1 => 500,
+        1_000 => 250,
+        _ => 40,
     }
 }
 
-/// The nanoseconds of each side for one call, or for one vector of many: the best of all rounds, the sides in turn.
-fn best(timed: &Timed) -> [f64; 2] {
+/// The shortest seconds of each side for a block in one pass, the sides in turn.
+fn pass(timed: &Timed) -> [f64; 2] {
     let mut sides = (timed.sides)();
     let mut best = [f64::INFINITY; 2];
     for round in 0..rounds(timed) {
@@ -58,7 +58,19 @@ fn best(timed: &Timed) -> [f64; 2] {
             best[side] = best[side].min(seconds(&mut sides[side], block(timed)));
         }
     }
-    best.map(|seconds| seconds * 1e9 / (block(timed) * timed.vectors) as f64)
+    best
+}
+
+/// The nanoseconds of each line and side for one call, or for one vector of many: the best of all passes.
+fn best(all: &[Timed]) -> Vec<[f64; 2]> {
+    let mut best = vec![[f64::INFINITY; 2]; all.len()];
+    for _ in 0..PASSES {
+        for (timed, best) in all.iter().zip(&mut best) {
+            let nanoseconds = pass(timed).map(|seconds| seconds * 1e9 / (block(timed) * timed.vectors) as f64);
+            *best = [best[0].min(nanoseconds[0]), best[1].min(nanoseconds[1])];
+        }
+    }
+    best
 }
 
 /// How long a side takes for as many.
@@ -70,11 +82,11 @@ fn seconds(side: &mut Work, times: usize) -> f64 {
 
 /// The table of times.
 fn table() -> Option<()> {
-    println!("nanoseconds of a call, or of one vector of many; the best of {LEAST} rounds or more\n");
+    let all = timed::all();
+    let best = best(&all);
+    println!("nanoseconds of a call, or of one vector of many; the best of {PASSES} passes of many rounds\n");
     println!("{:<18} {:>5} {:>9} {:>10} {:>10} {:>7}", "operation", "order", "vectors", "cgmath", "Migthumo", "ratio");
-    for timed in timed::all() {
-        let [theirs, ours] = best(&timed);
-        let (name, order, vectors) = (timed.name, timed.order, timed.vectors);
+    for (Timed { name, order, vectors, .. }, [theirs, ours]) in all.iter().zip(best) {
         println!("{name:<18} {order:>5} {vectors:>9} {theirs:>10.2} {ours:>10.2} {:>7.2}", ours / theirs);
     }
     Some(())
