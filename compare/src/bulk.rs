@@ -6,7 +6,7 @@ use crate::list::{numbers, Answer, List, Word};
 use cgmath::{Matrix2, Matrix3, Matrix4, Vector2, Vector3, Vector4};
 
 /// How many vectors or points a move has.
-const COUNTS: [usize; 6] = [0, 1, 2, 3, 7, 64];
+pub const COUNTS: [usize; 6] = [0, 1, 2, 3, 7, 64];
 
 /// The classes of its numbers.
 const CLASSES: [Class; 5] = [Class::Whole, Class::Fraction, Class::Bits, Class::Nan, Class::Infinite];

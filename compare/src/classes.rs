@@ -51,6 +51,19 @@ pub struct Shape {
     pub numbers: usize,
 }
 
+/// As many numbers.
+pub const fn numbers(numbers: usize) -> Shape {
+    Shape { matrices: 0, numbers }
+}
+
+/// One matrix, and numbers behind it.
+pub const fn matrix(numbers: usize) -> Shape {
+    Shape { matrices: 1, numbers }
+}
+
+/// Two matrices.
+pub const MATRICES: Shape = Shape { matrices: 2, numbers: 0 };
+
 impl Class {
     /// The class's word in the list.
     pub fn name(self) -> &'static str {

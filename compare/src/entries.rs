@@ -1,7 +1,5 @@
 //! Numbers to vectors and matrices, and back, through their public fields.
 
-use cgmath::{Matrix2, Matrix3, Matrix4, Vector2, Vector3, Vector4};
-
 /// What is made of numbers.
 pub trait Take {
     /// Made of the first numbers, as many as it has.
@@ -33,13 +31,13 @@ impl<const N: usize> Entries for [[f64; N]; N] {
 }
 
 macro_rules! vector {
-    ($Vector:ident { $($field:ident: $place:expr),+ }) => {
-        impl Take for $Vector<f64> {
+    ($Vector:ty { $($field:ident: $place:expr),+ }) => {
+        impl Take for $Vector {
             fn take(x: &[f64]) -> Self {
-                $Vector { $($field: x[$place]),+ }
+                Self { $($field: x[$place]),+ }
             }
         }
-        impl Entries for $Vector<f64> {
+        impl Entries for $Vector {
             fn entries(&self) -> Vec<f64> {
                 vec![$(self.$field),+]
             }
@@ -47,18 +45,14 @@ macro_rules! vector {
     };
 }
 
-vector!(Vector2 { x: 0, y: 1 });
-vector!(Vector3 { x: 0, y: 1, z: 2 });
-vector!(Vector4 { x: 0, y: 1, z: 2, w: 3 });
-
 macro_rules! matrix {
-    ($Matrix:ident { $($field:ident: $start:expr),+ }) => {
-        impl Take for $Matrix<f64> {
+    ($Matrix:ty { $($field:ident: $start:expr),+ }) => {
+        impl Take for $Matrix {
             fn take(x: &[f64]) -> Self {
-                $Matrix { $($field: Take::take(&x[$start..])),+ }
+                Self { $($field: Take::take(&x[$start..])),+ }
             }
         }
-        impl Entries for $Matrix<f64> {
+        impl Entries for $Matrix {
             fn entries(&self) -> Vec<f64> {
                 [$(self.$field.entries()),+].concat()
             }
@@ -66,6 +60,18 @@ macro_rules! matrix {
     };
 }
 
-matrix!(Matrix2 { x: 0, y: 2 });
-matrix!(Matrix3 { x: 0, y: 3, z: 6 });
-matrix!(Matrix4 { x: 0, y: 4, z: 8, w: 12 });
+/// The vectors and matrices of a crate: cgmath's with `<f64>`, Migthumo's without.
+macro_rules! records {
+    ($crate_name:ident $($f64:tt)*) => {
+        vector!($crate_name::Vector2 $($f64)* { x: 0, y: 1 });
+        vector!($crate_name::Vector3 $($f64)* { x: 0, y: 1, z: 2 });
+        vector!($crate_name::Vector4 $($f64)* { x: 0, y: 1, z: 2, w: 3 });
+        matrix!($crate_name::Matrix2 $($f64)* { x: 0, y: 2 });
+        matrix!($crate_name::Matrix3 $($f64)* { x: 0, y: 3, z: 6 });
+        matrix!($crate_name::Matrix4 $($f64)* { x: 0, y: 4, z: 8, w: 12 });
+    };
+}
+
+records!(cgmath<f64>);
+#[cfg(feature = "boundary")]
+records!(migthumo);

@@ -3,6 +3,7 @@
 use crate::classes::{Class, Shape, CLASSES, LINES};
 use crate::entries::Entries;
 use crate::random::Random;
+use crate::rule::Rule;
 use cgmath::{Angle, Rad};
 use std::fmt::Write;
 use std::panic::{catch_unwind, AssertUnwindSafe};
@@ -144,7 +145,7 @@ impl List {
         let line = |list: &mut List, class: &str, axis: &[f64], theta: f64| {
             let (s, c) = Rad(theta).sin_cos();
             let answer = does(axis, Rad(theta));
-            assert!(same(&answer, &Answer::Given(second(axis, s, c))), "{name} of order {order}");
+            assert!(Rule::Numbers.same(&answer, &Answer::Given(second(axis, s, c))), "{name} of order {order}");
             list.line(name, order, class, &numbers(&[&[s, c], axis].concat()), &answer);
         };
         let shape = Shape { matrices: 0, numbers: axis };
@@ -192,17 +193,5 @@ fn refusing(order: usize, places: &[usize], does: impl Fn() -> Answer) -> Answer
             Answer::Refused(1)
         }
         Ok(answer) => answer,
-    }
-}
-
-/// Whether two answers are the same bit for bit, any NaN being the same as any other.
-fn same(a: &Answer, b: &Answer) -> bool {
-    match (a, b) {
-        (Answer::Given(a), Answer::Given(b)) => {
-            a.len() == b.len() && a.iter().zip(b).all(|(a, b)| a.to_bits() == b.to_bits() || (a.is_nan() && b.is_nan()))
-        }
-        (Answer::Number(a), Answer::Number(b)) => a == b,
-        (Answer::Refused(a), Answer::Refused(b)) => a == b,
-        _ => false,
     }
 }

@@ -1,26 +1,13 @@
 //! The operations of the list, each asked of cgmath by its public name.
 
 use crate::bulk;
-use crate::classes::Shape;
+use crate::classes::{matrix, numbers, MATRICES};
 use crate::entries::Take;
 use crate::list::{given, inverse, Answer, List, Word};
 use crate::second;
 use crate::whole;
 use cgmath::prelude::*;
 use cgmath::{Matrix2, Matrix3, Matrix4, Vector2, Vector3, Vector4};
-
-/// As many numbers.
-fn numbers(numbers: usize) -> Shape {
-    Shape { matrices: 0, numbers }
-}
-
-/// One matrix, and numbers behind it.
-fn matrix(numbers: usize) -> Shape {
-    Shape { matrices: 1, numbers }
-}
-
-/// Two matrices.
-const MATRICES: Shape = Shape { matrices: 2, numbers: 0 };
 
 /// What every order has.
 macro_rules! order {

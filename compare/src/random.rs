@@ -1,4 +1,4 @@
-//! Numbers that look random and are the same at every run: splitmix64 from a fixed seed.
+//! Numbers that look random and are the same at every run: splitmix64 from a seed.
 
 /// Where the list's numbers start.
 pub const SEED: u64 = 0x6d69_6774_6875_6d6f;
@@ -9,7 +9,12 @@ pub struct Random(u64);
 impl Random {
     /// The generator at the fixed seed.
     pub fn new() -> Random {
-        Random(SEED)
+        Random::seeded(SEED)
+    }
+
+    /// The generator at any seed.
+    pub fn seeded(seed: u64) -> Random {
+        Random(seed)
     }
 
     /// The next 64 bits.

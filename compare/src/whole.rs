@@ -7,7 +7,7 @@ use crate::random::Random;
 
 /// What a matrix of whole numbers is made of.
 #[derive(Clone, Copy)]
-enum Kind {
+pub enum Kind {
     /// From -9 to 9.
     Whole,
     /// From -100 to 100.
@@ -25,7 +25,7 @@ enum Kind {
 }
 
 /// Every kind, its word in the list, and how many of its signed sums are asked for at each order.
-const KINDS: [(Kind, &str, usize); 7] = [
+pub const KINDS: [(Kind, &str, usize); 7] = [
     (Kind::Whole, "whole", 40),
     (Kind::Medium, "medium", 40),
     (Kind::Large, "large", 40),
@@ -42,7 +42,7 @@ const DETERMINANTS: usize = 6;
 const COFACTORS: usize = 16;
 
 /// Numbers on both sides of each edge of refusal 6.
-const EDGES: [f64; 18] = [
+pub const EDGES: [f64; 18] = [
     1024.0,
     -1024.0,
     1025.0,
@@ -79,7 +79,7 @@ impl Kind {
     }
 
     /// The numbers of a matrix of this kind, column by column; a zero has either sign.
-    fn draw(self, random: &mut Random, order: usize) -> Vec<f64> {
+    pub fn draw(self, random: &mut Random, order: usize) -> Vec<f64> {
         let entries = self.columns(random, order).concat();
         assert!(entries.iter().all(|entry| entry.abs() <= 1024));
         entries.into_iter().map(|entry| if entry == 0 { random.one_of(&[0.0, -0.0]) } else { entry as f64 }).collect()
@@ -137,12 +137,12 @@ fn power(random: &mut Random, order: usize) -> Vec<Vec<i64>> {
 }
 
 /// The signed sum, or refusal 6.
-fn signed_sum(order: usize, x: &[f64]) -> Answer {
+pub fn signed_sum(order: usize, x: &[f64]) -> Answer {
     exact::whole(order, x).map_or(Answer::Refused(6), |m| Answer::Number(exact::signed_sum(&m) as i64))
 }
 
 /// Whether the signed sum is undoable, as 1 or 0, or refusal 6.
-fn undoable(order: usize, x: &[f64]) -> Answer {
+pub fn undoable(order: usize, x: &[f64]) -> Answer {
     exact::whole(order, x).map_or(Answer::Refused(6), |m| Answer::Number(exact::undoable(exact::signed_sum(&m)) as i64))
 }
 
@@ -178,7 +178,7 @@ fn sums(list: &mut List, order: usize, determinant: &impl Fn(&[f64]) -> f64) {
     }
     for place in 0..order * order {
         for edge in EDGES {
-            let x = with_edge(list, order, place, edge);
+            let x = with_edge(&mut list.random, order, place, edge);
             list.line("signed_sum", order, "edge*", &numbers(&x), &signed_sum(order, &x));
         }
     }
@@ -192,8 +192,8 @@ fn undoables(list: &mut List, order: usize) {
             list.line("undoable", order, &format!("{name}*"), &numbers(&x), &undoable(order, &x));
         }
     }
-    for number in 0..EDGES.len() {
-        let x = with_edge(list, order, number % (order * order), EDGES[number]);
+    for (number, edge) in EDGES.into_iter().enumerate() {
+        let x = with_edge(&mut list.random, order, number % (order * order), edge);
         list.line("undoable", order, "edge*", &numbers(&x), &undoable(order, &x));
     }
 }
@@ -208,8 +208,8 @@ fn cofactors(list: &mut List, order: usize) {
             cofactor_line(list, order, &format!("{name}*"), &x, [number / order % order, number % order]);
         }
     }
-    for number in 0..EDGES.len() {
-        let x = with_edge(list, order, number % squared, EDGES[number]);
+    for (number, edge) in EDGES.into_iter().enumerate() {
+        let x = with_edge(&mut list.random, order, number % squared, edge);
         let places = [list.random.below(order as u64) as usize, list.random.below(order as u64) as usize];
         cofactor_line(list, order, "edge*", &x, places);
     }
@@ -217,7 +217,7 @@ fn cofactors(list: &mut List, order: usize) {
         for places in [[outside, 0], [order - 1, outside], [outside, outside]] {
             let x = Kind::Whole.draw(&mut list.random, order);
             cofactor_line(list, order, "outside*", &x, places);
-            let x = with_edge(list, order, 0, 0.5);
+            let x = with_edge(&mut list.random, order, 0, 0.5);
             cofactor_line(list, order, "outside*", &x, places);
         }
     }
@@ -231,8 +231,8 @@ fn cofactor_line(list: &mut List, order: usize, class: &str, x: &[f64], places: 
 }
 
 /// Whole numbers from -9 to 9, and this one at a place.
-fn with_edge(list: &mut List, order: usize, place: usize, edge: f64) -> Vec<f64> {
-    let mut x = Kind::Whole.draw(&mut list.random, order);
+pub fn with_edge(random: &mut Random, order: usize, place: usize, edge: f64) -> Vec<f64> {
+    let mut x = Kind::Whole.draw(random, order);
     x[place] = edge;
     x
 }
