@@ -5,7 +5,7 @@ mod points;
 mod vectors;
 
 ghost use mathlib.Core.Path.{_≡_};
-ghost use Prim.Native.Nat.{_≤_};
+ghost use Prim.Native.Nat.{_%_, _≤_};
 ghost use Rattle.vector.specs.Refusals.{done, leaves};
 ghost use Rattle.bulk.specs.Refusals.{movedOutcome, fits};
 ghost use Rattle.bulk.specs.Moves.{moveVectors, movePoints};
@@ -15,6 +15,18 @@ use vector::Refusal;
 pub enum Moved {
     Done,
     Refused(Refusal),
+}
+
+// What is left over after whole vectors or points of this size; dividing by a constant is quicker.
+fn left_over(input: usize, size: usize) -> usize
+    requires { ⌜ (2 ≤ size) × (size ≤ 4) ⌝ }
+    ensures { λ r. ⌜ r ≡ input % size ⌝ }
+{
+    match size {
+        2 => input % 2,
+        3 => input % 3,
+        _ => input % 4,
+    }
 }
 
 // Refusals 5, 3 and 4, the first that applies; vectors are as long as the order, points one number shorter.
@@ -31,7 +43,7 @@ fn check(short: usize, order: usize, matrix: usize, input: usize, output: usize)
     if matrix != order * order {
         return Moved::Refused(Refusal::InputLength);
     }
-    if input % (order - short) != 0 {
+    if left_over(input, order - short) != 0 {
         return Moved::Refused(Refusal::InputLength);
     }
     if output != input {

@@ -1,4 +1,5 @@
 // What was answered, stored in an output whose length was tested: 0, or the refusal and nothing written.
+// At order 2 the first number is written last: ends that differ keep the compiler from storing the orders by one slow tail.
 ghost use mathlib.Core.Path.{_≡_};
 ghost use mathlib.Core.Bool.{cond};
 ghost use mathlib.Core.List.{[], _∷_};
@@ -70,8 +71,8 @@ pub(crate) fn vector2(answer: Vector2Answer, out: &mut [f64]) -> u32
     match answer {
         Vector2Answer::Refused(cause) => cause.number(),
         Vector2Answer::Given(v) => {
-            out[0] = v.x;
             out[1] = v.y;
+            out[0] = v.x;
             0
         }
     }
@@ -118,10 +119,10 @@ pub(crate) fn matrix2(answer: Matrix2Answer, out: &mut [f64]) -> u32
     match answer {
         Matrix2Answer::Refused(cause) => cause.number(),
         Matrix2Answer::Given(m) => {
-            out[0] = m.x.x;
             out[1] = m.x.y;
             out[2] = m.y.x;
             out[3] = m.y.y;
+            out[0] = m.x.x;
             0
         }
     }

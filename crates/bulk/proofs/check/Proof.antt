@@ -26,33 +26,38 @@ returns-3 c =
     let b = c .before in
     rw (order-taken _ _ (b .before .if1 .left) (b .if2 .left), length-wrong _ _ _ (c .if3 .taken))
 
-sub-if4 : tie.Need-sub-if4
-sub-if4 c = search needs
+sub-left-over : tie.Need-sub-left-over
+sub-left-over c = search needs
 
-rem-if4 : tie.Need-rem-if4
-rem-if4 c = search needs
+left-over-requires : tie.Need-left-over-requires
+left-over-requires c κs = (omega (arith, c .before .before .if1 .left), omega (arith, c .before .if2 .left))
 
 returns-4 : tie.Need-returns-4
 unfolding fits
 returns-4 c =
-    let b = c .before .before in
-    rw (order-taken _ _ (b .before .if1 .left) (b .if2 .left), length-right _ _ _ (c .before .if3 .left), length-wrong _ _ _ (c .if4 .taken))
+    let w = c .before in
+    let d = w .before in
+    let b = d .before in
+    rw
+    (order-taken _ _ (b .before .if1 .left) (b .if2 .left), length-right _ _ _ (d .if3 .left), ← w .left-over .ensures, length-wrong _ _ _ (c .if4 .taken))
 
 returns-5 : tie.Need-returns-5
 unfolding fits
 returns-5 c =
-    let d = c .before in
-    let b = d .before .before in
+    let w = c .before .before in
+    let d = w .before in
+    let b = d .before in
     rw
-    (order-taken _ _ (b .before .if1 .left) (b .if2 .left), length-right _ _ _ (d .before .if3 .left), length-right _ _ _ (d .if4 .left), length-wrong _ _ _ (c .if5 .taken))
+    (order-taken _ _ (b .before .if1 .left) (b .if2 .left), length-right _ _ _ (d .if3 .left), ← w .left-over .ensures, length-right _ _ _ (c .before .if4 .left), length-wrong _ _ _ (c .if5 .taken))
 
 returns-6 : tie.Need-returns-6
 unfolding fits
 returns-6 c =
-    let d = c .before in
-    let b = d .before .before in
+    let w = c .before .before in
+    let d = w .before in
+    let b = d .before in
     rw
-    (order-taken _ _ (b .before .if1 .left) (b .if2 .left), length-right _ _ _ (d .before .if3 .left), length-right _ _ _ (d .if4 .left), length-right _ _ _ (c .if5 .left))
+    (order-taken _ _ (b .before .if1 .left) (b .if2 .left), length-right _ _ _ (d .if3 .left), ← w .left-over .ensures, length-right _ _ _ (c .before .if4 .left), length-right _ _ _ (c .if5 .left))
 
 pub check-spec : {M : Type 1} → statement M
 check-spec =
@@ -63,8 +68,8 @@ check-spec =
     returns-2
     mul-if3
     returns-3
-    sub-if4
-    rem-if4
+    sub-left-over
+    left-over-requires
     returns-4
     returns-5
     returns-6)

@@ -1,7 +1,7 @@
 -- A refusal is answered and nothing written; what is given fills the output. Assumes nothing.
 use mathlib.Core.Path.{refl}
-use Rattle.migthumo.specs.Flat.{numbers2}
-use Rattle.migthumo.proofs.Flat.{fills}
+use mathlib.Core.List.{[], _∷_}
+use Rattle.migthumo.proofs.Flat.{fills-last}
 use borrow.Author.Needs.{needs}
 use Rattle.migthumo.proofs.store.matrix2.Statement.{statement}
 use Rattle.migthumo.proofs.store.matrix2.Tie as tie
@@ -34,7 +34,10 @@ same-length : tie.Need-same-length
 same-length c = search needs
 
 returns-2 : tie.Need-returns-2
-returns-2 c = rw (c .before .answer2 .given .1) (record { answer = refl; left = fills (numbers2 (c .before .answer2 .given .0 .0)) (c .before .before .before .before .args .out .now) (c .before .before .before .before .pre) })
+returns-2 c =
+    let m = c .before .answer2 .given .0 .0 in
+    let start = c .before .before .before .before in
+    rw (c .before .answer2 .given .1) (record { answer = refl; left = fills-last (m .x .x) (m .x .y ∷ m .y .x ∷ m .y .y ∷ []) (start .args .out .now) (start .pre) })
 
 pub matrix2-spec : {M : Type 1} → statement M
 matrix2-spec =
