@@ -1,0 +1,2 @@
+// The report of a matrix given in words.
+mod write;
