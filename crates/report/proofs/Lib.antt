@@ -1,2 +1,4 @@
 pub mod Writing
 pub mod Signs
+pub mod Reading
+pub mod Listing

@@ -1,2 +1,4 @@
 pub mod Text
 pub mod Written
+pub mod Words
+pub mod Read

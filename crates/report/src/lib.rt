@@ -1,2 +1,3 @@
 // The report of a matrix given in words.
+mod read;
 mod write;
