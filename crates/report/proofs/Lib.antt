@@ -2,3 +2,4 @@ pub mod Writing
 pub mod Signs
 pub mod Reading
 pub mod Listing
+pub mod Asking

@@ -15,7 +15,8 @@ use mir.Val.{SFits, toZ, ofZ}
 use mir.ValLaws.{toZ-pos}
 use Rattle.engine.proofs.Signed.{back, small-fits, small-back}
 use Rattle.whole.proofs.Ring.{abs-neg}
-use Rattle.report.specs.Words.{negative, digitsOf, value, signed, held as Words·held}
+use Rattle.exact.specs.Value.{signed}
+use Rattle.report.specs.Words.{negative, digitsOf, value, held as Words·held}
 use Rattle.report.specs.Text.{Bytes, text, decimal, whole}
 
 -- the test below zero, of the number itself

@@ -2,3 +2,4 @@ pub mod Text
 pub mod Written
 pub mod Words
 pub mod Read
+pub mod Entries

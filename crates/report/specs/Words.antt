@@ -5,7 +5,8 @@ use mathlib.Core.Bool.{Bool, true, false, cond, _&&_}
 use mathlib.Core.List.{List, [], _∷_}
 use lib.Dec.{leb, eqb}
 use lib.ListN.{length, drop}
-use lib.IntN.{ℤ, pos, negℤ}
+use lib.IntN.{ℤ}
+use Rattle.exact.specs.Value.{signed}
 use Rattle.report.specs.Text.{Bytes}
 
 -- the test passes at every member
@@ -61,11 +62,6 @@ isNumber w = leb 1 (length (digitsOf w)) && all isDigit (digitsOf w)
 unfoldable pub value : ℕ → Bytes → ℕ
 value n [] = n
 value n (b ∷ w) = value (n * 10 + (b - 48)) w
-
--- a number with its sign
-abbrev pub signed : Bool → ℕ → ℤ
-signed true n = negℤ (pos n)
-signed false n = pos n
 
 -- the whole number that a word is, however long
 abbrev pub numberOf : Bytes → ℤ
