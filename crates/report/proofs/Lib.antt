@@ -3,3 +3,4 @@ pub mod Signs
 pub mod Reading
 pub mod Listing
 pub mod Asking
+pub mod Fractions

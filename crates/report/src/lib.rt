@@ -1,4 +1,5 @@
 // The report of a matrix given in words.
 mod ask;
+mod fraction;
 mod read;
 mod write;
