@@ -4,10 +4,12 @@ use mathlib.Core.Path.{_≡_, refl, sym, ap, _∙_, subst}
 use mathlib.Core.Bool.{Bool, true, false}
 use mathlib.Core.List.{List}
 use Prim.Native.Nat.{ℕ, suc, _+_, _*_, _-_, _^_, _≤_, _<_, suc-le-suc}
-use native.Mathlib.Nat.{lt-of-le-of-lt, lt-of-lt-of-le, suc-mul, mul-le-mul-right}
+use native.Mathlib.Nat.{lt-of-le-of-lt, lt-of-lt-of-le, suc-mul, mul-le-mul-right, le-trans}
 use native.Mathlib.Omega.{arith}
 use lib.Dec.{T, lit<}
-use lib.ListN.{getD}
+use lib.ListN.{length, take, drop, getD}
+use lib.Seq.{length-take-le, getD-take}
+use borrow.Author.Tests.{le-leb, lt-leb}
 use lib.IntN.{ℤ, pos, natAbs, _*ℤ_}
 use lib.Signed.{mag}
 use lib.Ieee.{Float, binary64, ofInt}
@@ -38,6 +40,9 @@ use Rattle.engine.proofs.Signed.{back, small-back}
 use Rattle.engine.proofs.Places.{below-two, below-three, below-four}
 use Rattle.engine.proofs.Taken.{whole-entries}
 use Rattle.engine.proofs.Outcomes.{taken-yes}
+use Rattle.report.specs.Words.{all}
+use Rattle.report.specs.Report.{small}
+use Rattle.report.proofs.Reading.{member-passes, member-fails, members-over}
 use Rattle.report.specs.Entries.{columns, SmallList, floatAt, AsFloats, numberIn}
 
 -- ---- the list
@@ -45,6 +50,31 @@ use Rattle.report.specs.Entries.{columns, SmallList, floatAt, AsFloats, 
 -- fewer numbers are small too
 pub fewer : {k j : ℕ} {list : List ℤ} → j ≤ k → SmallList k list → SmallList j list
 fewer h small = record { each = λ i l. small .each i (omega arith) }
+
+-- a place of a matrix is a place of the list
+pub place : (n c r : ℕ) → c < n → r < n → c * n + r < n * n
+place n c r h l = omega (arith, mul-le-mul-right {m = suc c} {n = n} n h, suc-mul c n)
+
+-- which has room for the entries
+pub room : (n : ℕ) → n ≤ 4 → n * n ≤ 16
+room n h = le-trans (mul-le-mul-right {m = n} {n = 4} n h) (omega arith)
+
+-- a number among the first is tested, and the rest decide, or it is beyond 1024
+module _ (list : List ℤ) (count i : ℕ) (within-list : count ≤ length list) (h : i < count) (m : ℕ) (fits : mag (getD list i (pos 0)) < 2 ^ 63) (is-held : m ≡ natAbs (toZ w64 (ofZ w64 (getD list i (pos 0))))) where
+  is : m ≡ natAbs (getD list i (pos 0))
+  is = is-held ∙ ap natAbs (back (getD list i (pos 0)) fits)
+
+  there : i < length (take count list)
+  there = rw (length-take-le count list within-list) h
+
+  pub small-passes : m ≤ 1024 → all small (drop i (take count list)) ≡ all small (drop (i + 1) (take count list))
+  small-passes few = member-passes small (pos 0) (take count list) i there (rw (getD-take count list i (pos 0) h, ← is) (le-leb m 1024 few))
+
+  pub small-fails : 1024 < m → all small (drop i (take count list)) ≡ false
+  small-fails beyond = member-fails small (pos 0) (take count list) i there (rw (getD-take count list i (pos 0) h, ← is) (lt-leb m 1024 beyond))
+
+pub small-over : (list : List ℤ) (count i : ℕ) → count ≤ length list → count ≤ i → all small (drop i (take count list)) ≡ true
+small-over list count i within-list h = members-over small (take count list) i (rw (length-take-le count list within-list) h)
 
 -- a number's float
 pub float-is : (list : List ℤ) (i : ℕ) (x : Float) → SmallList (i + 1) list → x ≡ ofInt binary64 (toZ w64 (ofZ w64 (getD list i (pos 0)))) → x ≡ floatAt list i
@@ -104,12 +134,8 @@ module _ (list : List ℤ) where
   number-back z h = exact-truncation 63 (exact-integer binary64 z (lt-of-le-of-lt h (lit< tt))) (lt-of-le-of-lt h (lit< tt))
 
   module _ (n : ℕ) (e : Floats) (small : SmallList (n * n) list) (floats : AsFloats n list e) where
-    -- a place of the matrix is a place of the list
-    place : (c r : ℕ) → c < n → r < n → c * n + r < n * n
-    place c r h l = omega (arith, mul-le-mul-right {m = suc c} {n = n} n h, suc-mul c n)
-
     small-place : (c r : ℕ) → c < n → r < n → natAbs (columns n list c r) ≤ 1024
-    small-place c r h l = small .each (c * n + r) (place c r h l)
+    small-place c r h l = small .each (c * n + r) (place n c r h l)
 
     all-taken : taken n e ≡ given tt
     all-taken = taken-yes n e (true-of (wholeEntries 1024 n e) (whole-entries 1024 n e (lit< tt) .1 (λ c r h l. rw (floats .each c r h l) (taken-float (columns n list c r) (small-place c r h l)))))

@@ -139,3 +139,11 @@ module _ {l l′ : Bytes} {at at′ : ℕ} (q : Ratio) where
   pub over-under : (q .under ≡ 1 → ⊥) → Wrote l at (decimal (q .over) ++ (text "/" ++ decimal (q .under))) l′ at′ → Wrote l at (ratioText q) l′ at′
   unfolding ratioText
   over-under other w = named (rw (ne-eqb (q .under) 1 other)) w
+
+-- ---- the whole fraction
+
+pub fraction-text : {l l′ l″ : Bytes} {at at′ at″ : ℕ} (k s : ℤ) → mag k < 2 ^ 63 → mag s < 2 ^ 63 → (a b : ℕ) (q : Ratio) → a ≡ natAbs (held k) → b ≡ natAbs (held s) → q ≡ reduced a b
+    → Wrote l at (cond (ltZ (held k *ℤ held s) (pos 0)) (text "-") []) l′ at′ → Wrote l′ at′ (ratioText q) l″ at″ → Wrote l at (fraction k s) l″ at″
+unfolding fraction
+fraction-text k s k-fits s-fits a b q over under is first second =
+    named (rw (is, over, under, back k k-fits, back s s-fits)) (then first second)

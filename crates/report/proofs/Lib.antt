@@ -4,3 +4,4 @@ pub mod Reading
 pub mod Listing
 pub mod Asking
 pub mod Fractions
+pub mod Rows

@@ -36,13 +36,13 @@ module _ (s : Bytes) (from count : ℕ) where
     pub not-whole : whole ≡ false → Numbers s from count false list
     not-whole e =
         let fails : isNumber (n .word) ≡ false = sym (n .tested) ∙ e in
-        record { tested = rw (← so .tested, n .is, fails); read = λ t. differ (sym t) }
+        record { room = so .room; tested = rw (← so .tested, n .is, fails); read = λ t. differ (sym t) }
 
     -- a word too many
     pub too-many : i ≡ count → Numbers s from count false list
     too-many e =
         let other : eqb (length (wordsFrom s from)) count ≡ false = ne-eqb (length (wordsFrom s from)) count (λ same. omega (arith, so .counted, long)) in
-        record { tested = rw other (sym (and-false (all isNumber (wordsFrom s from)))); read = λ t. differ (sym t) }
+        record { room = so .room; tested = rw other (sym (and-false (all isNumber (wordsFrom s from)))); read = λ t. differ (sym t) }
       where
         and-false : (b : Bool) → b && false ≡ false
         and-false true = refl
@@ -69,4 +69,4 @@ module _ (s : Bytes) (from count : ℕ) where
       let length-is : length (wordsFrom s from) ≡ i = sym (so .counted) ∙ rw none (omega arith) in
       let all-is : all isNumber (wordsFrom s from) ≡ true = sym (so .tested) ∙ rw none in
       let read-is : take i list ≡ map held (wordsFrom s from) = sym (append-nil (take i list)) ∙ rw none at (so .read) in
-      record { tested = rw (length-is, all-is); read = λ t. rw (sym (eqb-true i count t)) read-is }
+      record { room = so .room; tested = rw (length-is, all-is); read = λ t. rw (sym (eqb-true i count t)) read-is }

@@ -54,19 +54,19 @@ unfolding negative digitsOf
 no-sign [] e = (omega arith, refl)
 no-sign (b ∷ w) e = (omega arith, rw e)
 
--- ---- the digits
+-- ---- the digits, and any test of every member
 
--- a digit, and the rest decides
-pub digit-passes : (w : Bytes) (i : ℕ) → i < length w → isDigit (getD w i 0) ≡ true → all isDigit (drop i w) ≡ all isDigit (drop (i + 1) w)
-digit-passes w i h e = rw (add-one i, drop-cons w i 0 h, e)
+-- a member that passes, and the rest decides
+pub member-passes : {A : Type 0} (test : A → Bool) (d : A) (l : List A) (i : ℕ) → i < length l → test (getD l i d) ≡ true → all test (drop i l) ≡ all test (drop (i + 1) l)
+member-passes test d l i h e = rw (add-one i, drop-cons l i d h, e)
 
--- no digit
-pub digit-fails : (w : Bytes) (i : ℕ) → i < length w → isDigit (getD w i 0) ≡ false → all isDigit (drop i w) ≡ false
-digit-fails w i h e = rw (drop-cons w i 0 h, e)
+-- a member that does not
+pub member-fails : {A : Type 0} (test : A → Bool) (d : A) (l : List A) (i : ℕ) → i < length l → test (getD l i d) ≡ false → all test (drop i l) ≡ false
+member-fails test d l i h e = rw (drop-cons l i d h, e)
 
 -- past the end
-pub digits-over : (w : Bytes) (i : ℕ) → length w ≤ i → all isDigit (drop i w) ≡ true
-digits-over w i h = rw (drop-of-length-le w {i = i} h)
+pub members-over : {A : Type 0} (test : A → Bool) (l : List A) (i : ℕ) → length l ≤ i → all test (drop i l) ≡ true
+members-over test l i h = rw (drop-of-length-le l {i = i} h)
 
 -- some digits, and nothing else
 pub number-some : (w : Bytes) (k : ℕ) (r : Bool) → drop k w ≡ digitsOf w → k < length w → r ≡ all isDigit (drop k w) → r ≡ isNumber w

@@ -18,6 +18,12 @@ columns n list = λ c r. getD list (c * n + r) (pos 0)
 pub record SmallList (k : ℕ) (list : List ℤ) : Type 0 where
   pub each : (i : ℕ) → i < k → natAbs (getD list i (pos 0)) ≤ 1024
 
+-- an order from 2 to 4, and small entries
+pub record Square (n : ℕ) (list : List ℤ) : Type 0 where
+  pub least : 2 ≤ n
+  pub most : n ≤ 4
+  pub small : SmallList (n * n) list
+
 -- the float of the number at a place
 abbrev pub floatAt : List ℤ → ℕ → Float
 floatAt list i = ofInt binary64 (getD list i (pos 0))

@@ -26,5 +26,6 @@ pub record NextNumber (s : Bytes) (at : ℕ) (whole : Bool) (number : ℤ) (next
 
 -- the words from a place on are whole numbers and as many as expected, and where they are the list begins with them
 pub record Numbers (s : Bytes) (from count : ℕ) (good : Bool) (list : List ℤ) : Type 0 where
+  pub room : length list ≡ 16
   pub tested : good ≡ all isNumber (wordsFrom s from) && eqb (length (wordsFrom s from)) count
   pub read : good ≡ true → take count list ≡ map held (wordsFrom s from)

@@ -81,10 +81,14 @@ sumReport n m s =
 abbrev pub matrixReport : ℕ → Matrix → Bytes
 matrixReport n m = sumReport n m (signed-sum n m)
 
+-- a whole number of magnitude at most 1024
+abbrev pub small : ℤ → Bool
+small z = leb (natAbs z) 1024
+
 -- whole numbers: refusal 6 unless each is of magnitude at most 1024
 unfoldable pub numbersReport : ℕ → List ℤ → Bytes
 numbersReport n zs =
-    cond (all (λ z. leb (natAbs z) 1024) zs) (matrixReport n (columns n zs))
+    cond (all small zs) (matrixReport n (columns n zs))
     (text "refusal 6: an entry is not a whole number of magnitude at most 1024\n")
 
 -- what was expected

@@ -1,11 +1,15 @@
 // The exact engine, asked about a matrix whose entries stand in a list column by column.
 ghost use mathlib.Core.Path.{_≡_};
-ghost use Prim.Native.Nat.{_+_, _*_, _≤_, _<_};
+ghost use Prim.Native.Nat.{_+_, _≤_, _<_};
+ghost use lib.ListN.{length, take};
 ghost use Rattle.vector.specs.Vectors.{vector2, vector3, vector4};
 ghost use Rattle.whole.specs.Order.{signed-sum};
 ghost use Rattle.engine.specs.Whole.{floats2, floats3, floats4};
 ghost use Rattle.engine.specs.Engine.{numberOutcome, cofactorOf};
-ghost use Rattle.report.specs.Entries.{columns, SmallList, floatAt, AsFloats, numberIn};
+ghost use Rattle.report.specs.Words.{all};
+ghost use Rattle.report.specs.Report.{small};
+ghost use Rattle.report.specs.Entries.{columns, SmallList, Square, floatAt, AsFloats, numberIn};
+use crate::write;
 use engine::NumberAnswer;
 use matrix::Column;
 use matrix::Matrix2;
@@ -87,6 +91,22 @@ fn matrix4(list: [i64; 16]) -> Matrix4
     )
 }
 
+// Whether the first numbers are of magnitude at most 1024.
+pub(crate) fn all_small(list: [i64; 16], count: usize) -> bool
+    requires { ⌜ (count ≤ 16) × (length list ≡ 16) ⌝ }
+    ensures { λ r. ⌜ r ≡ all small (take count list) ⌝ }
+{
+    let mut i = 0;
+    while i < count {
+        let z = list[i];
+        if 1024 < write::magnitude(z) {
+            return false;
+        }
+        i += 1;
+    }
+    true
+}
+
 // The number that an answer gives, or 0.
 fn number(answer: NumberAnswer) -> i64
     ensures { λ r. ⌜ r ≡ numberIn (numberOutcome answer) ⌝ }
@@ -97,9 +117,17 @@ fn number(answer: NumberAnswer) -> i64
     }
 }
 
+// The entry at a column and a row.
+pub(crate) fn entry(list: [i64; 16], n: usize, c: usize, r: usize) -> i64
+    requires { ⌜ Square n list × (c < n) × (r < n) ⌝ }
+    ensures { λ z. ⌜ z ≡ columns n list c r ⌝ }
+{
+    list[c * n + r]
+}
+
 // The signed sum of an order.
 pub(crate) fn signed_sum(list: [i64; 16], n: usize) -> i64
-    requires { ⌜ (2 ≤ n) × (n ≤ 4) × SmallList (n * n) list ⌝ }
+    requires { ⌜ Square n list ⌝ }
     ensures { λ r. ⌜ r ≡ signed-sum n (columns n list) ⌝ }
 {
     match n {
@@ -111,7 +139,7 @@ pub(crate) fn signed_sum(list: [i64; 16], n: usize) -> i64
 
 // The cofactor of a place of an order.
 pub(crate) fn cofactor(list: [i64; 16], n: usize, c: usize, r: usize) -> i64
-    requires { ⌜ (2 ≤ n) × (n ≤ 4) × SmallList (n * n) list × (c < n) × (r < n) ⌝ }
+    requires { ⌜ Square n list × (c < n) × (r < n) ⌝ }
     ensures { λ k. ⌜ k ≡ cofactorOf n (columns n list) c r ⌝ }
 {
     match n {

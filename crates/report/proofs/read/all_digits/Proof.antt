@@ -1,5 +1,5 @@
 -- A turn passes one digit. Assumes nothing.
-use Rattle.report.proofs.Reading.{digit-passes, digit-fails, digits-over}
+use Rattle.report.proofs.Reading.{member-passes, member-fails, members-over}
 use mathlib.Core.Path.{_≡_, refl, sym, _∙_}
 use Prim.Native.Nat.{_≤_, _-_}
 use lib.ListN.{length, drop}
@@ -33,17 +33,17 @@ loop-less c = search needs
 loop-again : tie.Need-loop-again Inv-loop μ-loop
 loop-again c = 
     let l = c .before .before .before .before .loop in
-    (omega arith, sym (digit-passes _ (l .i) (c .before .before .before .loop-test .taken) (sym (c .before .is-digit .ensures) ∙ c .if1 .taken)) ∙ l .inv .1)
+    (omega arith, sym (member-passes isDigit 0 _ (l .i) (c .before .before .before .loop-test .taken) (sym (c .before .is-digit .ensures) ∙ c .if1 .taken)) ∙ l .inv .1)
 
 returns : tie.Need-returns Inv-loop μ-loop
 returns c = 
     let l = c .before .before .before .before .loop in
-    sym (digit-fails _ (l .i) (c .before .before .before .loop-test .taken) (sym (c .before .is-digit .ensures) ∙ c .if1 .left)) ∙ l .inv .1
+    sym (member-fails isDigit 0 _ (l .i) (c .before .before .before .loop-test .taken) (sym (c .before .is-digit .ensures) ∙ c .if1 .left)) ∙ l .inv .1
 
 returns-2 : tie.Need-returns-2 Inv-loop μ-loop
 returns-2 c = 
     let l = c .before .loop in
-    sym (digits-over _ (l .i) (c .loop-test .left)) ∙ l .inv .1
+    sym (members-over isDigit _ (l .i) (c .loop-test .left)) ∙ l .inv .1
 
 pub all-digits-spec : {M : Type 1} → statement M
 all-digits-spec =
