@@ -5,3 +5,6 @@ pub mod Listing
 pub mod Asking
 pub mod Fractions
 pub mod Rows
+pub mod Whole
+pub mod Alike
+pub mod Lines

@@ -159,7 +159,7 @@ line-over s i h n =
 -- ---- one word after another
 
 -- two tests that agree
-agree : (a b : ℕ) (k l : ℕ) → (a ≤ k → b ≤ l) → (k < a → l < b) → leb a k ≡ leb b l
+pub agree : (a b : ℕ) (k l : ℕ) → (a ≤ k → b ≤ l) → (k < a → l < b) → leb a k ≡ leb b l
 agree a b k l below other = by-test (leb a k) refl
   where
     by-test : (t : Bool) → leb a k ≡ t → leb a k ≡ leb b l

@@ -15,7 +15,7 @@ use Rattle.report.specs.Text.{Bytes, digit, higher, decimal}
 use Rattle.report.specs.Written.{Wrote}
 
 -- past the end nothing is stored
-sets-past : (l : Bytes) (i : ℕ) (t : Bytes) → length l ≤ i → sets l i t ≡ l
+pub sets-past : (l : Bytes) (i : ℕ) (t : Bytes) → length l ≤ i → sets l i t ≡ l
 sets-past l i [] h = refl
 sets-past l i (b ∷ t) h = rw (set-out l i b h) (sets-past l (suc i) t (omega arith))
 

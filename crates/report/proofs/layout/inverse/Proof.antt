@@ -1,41 +1,38 @@
+-- Its texts, one after another. Assumes nothing.
+use Rattle.report.proofs.Whole.{inverse-text}
+use Rattle.report.proofs.Writing.{then}
+use Rattle.report.specs.Entries.{columns}
 use borrow.Author.Needs.{needs}
 use Rattle.report.proofs.layout.inverse.Statement.{statement}
 use Rattle.report.proofs.layout.inverse.Tie as tie
-use Rattle.report.proofs.layout.inverse.Reads as reads
-use Rattle.report.proofs.layout.inverse.Lts as lts
-use Rattle.report.proofs.fraction.one_bit.Reads as one-bit-reads
-use Rattle.report.proofs.layout.comes_back.Reads as comes-back-reads
-use Rattle.report.proofs.layout.exactness.Reads as exactness-reads
-use Rattle.report.proofs.layout.rows.Reads as rows-reads
-use Rattle.report.proofs.write.magnitude.Reads as magnitude-reads
 
--- src/layout.rt:106:35
 magnitude-requires : tie.Need-magnitude-requires
 magnitude-requires c κs = search needs
 
--- src/layout.rt:106:9
 one-bit-requires : tie.Need-one-bit-requires
 one-bit-requires c κs = search needs
 
--- src/layout.rt:107:9
 exactness-requires : tie.Need-exactness-requires
 exactness-requires c κs = search needs
 
--- src/layout.rt:108:9
 rows-requires : tie.Need-rows-requires
 rows-requires c κs = search needs
 
--- src/layout.rt:109:5
 comes-back-requires : tie.Need-comes-back-requires
 comes-back-requires c κs = search needs
 
--- src/layout.rt:102:1
 same-length : tie.Need-same-length
 same-length c = search needs
 
--- src/layout.rt:102:1
 returns : tie.Need-returns
-returns c = ?
+returns c = 
+    let last = c .before .before in
+    let second = last .before .before .before .before in
+    let first = second .before .before .before .before in
+    let tested = first .before .before in
+    let start = tested .before .before .before in
+    inverse-text (start .args .n) (columns (start .args .n) (start .args .list)) (start .args .sum) (start .fits .sum .sfits) _ _ (tested .before .magnitude .ensures) (tested .one-bit .ensures)
+    (then (then (first .exactness .ensures) (second .rows .ensures)) (last .comes-back .ensures))
 
 pub inverse-spec : {M : Type 1} → statement M
 inverse-spec =
