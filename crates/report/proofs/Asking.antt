@@ -100,29 +100,35 @@ module _ (list : List ℤ) where
   pub as-floats2 : (m : Matrix2) → m ≡ record2 → AsFloats 2 list (floats2 m)
   as-floats2 m is =
       subst (λ (m : Matrix2). AsFloats 2 list (floats2 m)) (sym is)
-      (record { each = λ c r h l. below-two (λ c. floats2 record2 c r ≡ floatAt list (c * 2 + r))
-      (below-two (λ r. floats2 record2 0 r ≡ floatAt list (0 * 2 + r)) refl refl r l)
-      (below-two (λ r. floats2 record2 1 r ≡ floatAt list (1 * 2 + r)) refl refl r l)
-      c h })
+      (record {
+        each = λ c r h l. below-two (λ c. floats2 record2 c r ≡ floatAt list (c * 2 + r))
+            (below-two (λ r. floats2 record2 0 r ≡ floatAt list (0 * 2 + r)) refl refl r l)
+            (below-two (λ r. floats2 record2 1 r ≡ floatAt list (1 * 2 + r)) refl refl r l)
+            c h;
+      })
 
   pub as-floats3 : (m : Matrix3) → m ≡ record3 → AsFloats 3 list (floats3 m)
   as-floats3 m is =
       subst (λ (m : Matrix3). AsFloats 3 list (floats3 m)) (sym is)
-      (record { each = λ c r h l. below-three (λ c. floats3 record3 c r ≡ floatAt list (c * 3 + r))
-      (below-three (λ r. floats3 record3 0 r ≡ floatAt list (0 * 3 + r)) refl refl refl r l)
-      (below-three (λ r. floats3 record3 1 r ≡ floatAt list (1 * 3 + r)) refl refl refl r l)
-      (below-three (λ r. floats3 record3 2 r ≡ floatAt list (2 * 3 + r)) refl refl refl r l)
-      c h })
+      (record {
+        each = λ c r h l. below-three (λ c. floats3 record3 c r ≡ floatAt list (c * 3 + r))
+            (below-three (λ r. floats3 record3 0 r ≡ floatAt list (0 * 3 + r)) refl refl refl r l)
+            (below-three (λ r. floats3 record3 1 r ≡ floatAt list (1 * 3 + r)) refl refl refl r l)
+            (below-three (λ r. floats3 record3 2 r ≡ floatAt list (2 * 3 + r)) refl refl refl r l)
+            c h;
+      })
 
   pub as-floats4 : (m : Matrix4) → m ≡ record4 → AsFloats 4 list (floats4 m)
   as-floats4 m is =
       subst (λ (m : Matrix4). AsFloats 4 list (floats4 m)) (sym is)
-      (record { each = λ c r h l. below-four (λ c. floats4 record4 c r ≡ floatAt list (c * 4 + r))
-      (below-four (λ r. floats4 record4 0 r ≡ floatAt list (0 * 4 + r)) refl refl refl refl r l)
-      (below-four (λ r. floats4 record4 1 r ≡ floatAt list (1 * 4 + r)) refl refl refl refl r l)
-      (below-four (λ r. floats4 record4 2 r ≡ floatAt list (2 * 4 + r)) refl refl refl refl r l)
-      (below-four (λ r. floats4 record4 3 r ≡ floatAt list (3 * 4 + r)) refl refl refl refl r l)
-      c h })
+      (record {
+        each = λ c r h l. below-four (λ c. floats4 record4 c r ≡ floatAt list (c * 4 + r))
+            (below-four (λ r. floats4 record4 0 r ≡ floatAt list (0 * 4 + r)) refl refl refl refl r l)
+            (below-four (λ r. floats4 record4 1 r ≡ floatAt list (1 * 4 + r)) refl refl refl refl r l)
+            (below-four (λ r. floats4 record4 2 r ≡ floatAt list (2 * 4 + r)) refl refl refl refl r l)
+            (below-four (λ r. floats4 record4 3 r ≡ floatAt list (3 * 4 + r)) refl refl refl refl r l)
+            c h;
+      })
 
   -- ---- the numbers
 

@@ -134,8 +134,8 @@ module _ (line : Bytes) (from n : ℕ) (good : Bool) (list : List ℤ) (read : N
       list-small =
           record {
             each =
-              λ i h. rw (getD-take (n * n) list i (pos 0) h)
-              at (member-small (take (n * n) list) i all-small (rw (length-take-le (n * n) list (omega (arith, read .room, room n few))) h));
+                λ i h. rw (getD-take (n * n) list i (pos 0) h)
+                at (member-small (take (n * n) list) i all-small (rw (length-take-le (n * n) list (omega (arith, read .room, room n few))) h));
           }
 
       -- and the matrix follows
@@ -161,6 +161,7 @@ from-start [] t = sets-past [] 0 t (omega arith) ∙ rw (drop-nil (length t))
 from-start (x ∷ l) [] = refl
 from-start (x ∷ l) (b ∷ t) = sets-later b l 0 t ∙ ap (λ (r : Bytes). b ∷ r) (from-start l t)
 
--- what the report promises of the output and the answer
-pub promised : (before t after : Bytes) (next : ℕ) → Wrote before 0 t after next → (next ≡ min (length before) (length t)) × (after ≡ atStart before t)
-promised before t after next w = (omega (arith, w .place), w .bytes ∙ from-start before t)
+-- what the report promises of the answer and the output
+pub promised : (before t after : Bytes) (next : ℕ) → Wrote before 0 t after next
+    → (next ≡ min (length before) (length t)) × ((next ≤ length after) × (next ≡ length (take next after))) × (after ≡ atStart before t)
+promised before t after next w = (omega (arith, w .place), (w .within, sym (length-take-le next after (w .within))), w .bytes ∙ from-start before t)

@@ -14,7 +14,16 @@ use crate::fraction;
 use crate::write;
 
 // An entry of the matrix, or of its inverse, after a space.
-fn cell(out: &mut [u8], at: usize, list: [i64; 16], n: usize, sum: i64, inverse: bool, c: usize, r: usize) -> usize
+fn cell(
+    out: &mut [u8],
+    at: usize,
+    list: [i64; 16],
+    n: usize,
+    sum: i64,
+    inverse: bool,
+    c: usize,
+    r: usize,
+) -> usize
     requires { ⌜ (at ≤ length (now out)) × Square n list × (c < n) × (r < n) ⌝ }
     ensures { λ t. ⌜ Wrote (now (out .entry)) at (Text·text " " ++ Report·cell inverse n (columns n list) sum c r) (now (out .exit)) t ⌝ }
 {
@@ -26,7 +35,15 @@ fn cell(out: &mut [u8], at: usize, list: [i64; 16], n: usize, sum: i64, inverse:
 }
 
 // A row.
-fn row(out: &mut [u8], at: usize, list: [i64; 16], n: usize, sum: i64, inverse: bool, r: usize) -> usize
+fn row(
+    out: &mut [u8],
+    at: usize,
+    list: [i64; 16],
+    n: usize,
+    sum: i64,
+    inverse: bool,
+    r: usize,
+) -> usize
     requires { ⌜ (at ≤ length (now out)) × Square n list × (r < n) ⌝ }
     ensures { λ t. ⌜ Wrote (now (out .entry)) at (rowOf inverse n (columns n list) sum r) (now (out .exit)) t ⌝ }
 {

@@ -8,8 +8,7 @@ mod write;
 
 ghost use mathlib.Core.Path.{_≡_};
 ghost use Prim.Native.Nat.{_≤_, min};
-ghost use lib.ListN.{length};
-ghost use Rattle.report.specs.Text.{decimal};
+ghost use lib.ListN.{length, take};
 ghost use Rattle.report.specs.Written.{Wrote};
 ghost use Rattle.report.specs.Report.{reportOf, entriesExpected, atStart};
 
@@ -56,9 +55,10 @@ fn words_report(line: &[u8], out: &mut [u8]) -> usize
 }
 
 // The report of a line, an order and then entries column by column, as much of it as the output has room for.
-// The answer is how many bytes that is; the rest of the output is unchanged.
+// The answer is how many bytes that is; the rest of the output is unchanged. `within` follows from the other two: with it a caller may lend those bytes without a proof.
 pub fn report(line: &[u8], out: &mut [u8]) -> usize
     ensures answers { λ r. ⌜ r ≡ min (length (now (out .entry))) (length (reportOf (now (line .entry)))) ⌝ }
+    ensures within { λ r. ⌜ (r ≤ length (now (out .exit))) × (r ≡ length (take r (now (out .exit)))) ⌝ }
     ensures writes { λ _. ⌜ now (out .exit) ≡ atStart (now (out .entry)) (reportOf (now (line .entry))) ⌝ }
 {
     words_report(line, out)

@@ -11,7 +11,7 @@ same-length : tie.Need-same-length
 same-length c = search needs
 
 returns : tie.Need-returns
-returns c = promised _ _ _ _ (c .before .before .words-report .ensures)
+returns c = let p = promised _ _ _ _ (c .before .before .words-report .ensures) in (p .0, (p .1, p .2))
 
 pub report-spec : {M : Type 1} → statement M
 report-spec = tie.close (tie.spec words-report-requires same-length returns)

@@ -56,7 +56,7 @@ all-small-requires : tie.Need-all-small-requires
 all-small-requires c κs = (room _ (order-range _ _ _ (c .before .before .before .before .before .before .before .word-length .ensures) (c .before .before .before .before .before .order-of .ensures) .most), c .before .before .before .numbers .ensures .room)
 
 matrix-requires : tie.Need-matrix-requires
-matrix-requires c κs = 
+matrix-requires c κs =
     let range = order-range _ _ _ (c .before .before .before .before .before .before .before .before .before .before .word-length .ensures) (c .before .before .before .before .before .before .before .before .order-of .ensures) in
     (omega arith, record { least = range .least (c .before .before .before .before .before .before .before .if1 .left); most = range .most; small = list-small _ _ _ _ _ (c .before .before .before .before .before .before .numbers .ensures) (not-false _ (c .before .before .before .if2 .left)) (range .most) (sym (c .before .before .all-small .ensures) ∙ c .before .if3 .taken) })
 

@@ -25,7 +25,7 @@ same-length : tie.Need-same-length
 same-length c = search needs
 
 returns : tie.Need-returns
-returns c = 
+returns c =
     let last = c .before .before in
     let second = last .before .before .before .before in
     let first = second .before .before .before .before in

@@ -43,7 +43,7 @@ same-length : tie.Need-same-length
 same-length c = search needs
 
 returns : tie.Need-returns
-returns c = 
+returns c =
     let end = c .before .before in
     let fifth = end .before .before .before .before .before .before in
     let fourth = fifth .before .before .before .before .before in
@@ -62,7 +62,7 @@ same-length-2 : tie.Need-same-length-2
 same-length-2 c = search needs
 
 returns-2 : tie.Need-returns-2
-returns-2 c = 
+returns-2 c =
     let end = c .before .before in
     let fifth = end .before .before .before .before .before in
     let fourth = fifth .before .before .before .before .before in

@@ -47,7 +47,7 @@ same-length : tie.Need-same-length Inv-loop μ-loop
 same-length c = search needs
 
 returns : tie.Need-returns Inv-loop μ-loop
-returns c = 
+returns c =
     let l = c .before .before .before .before .before .before .loop in
     let all-columns : l .c ≡ c .before .before .before .before .before .before .before .before .args .n = omega (arith, l .inv .0, c .before .before .before .before .before .loop-test .left) in
     unheld (λ s. rowOf (c .before .before .before .before .before .before .before .before .args .inverse) (c .before .before .before .before .before .before .before .before .args .n) (columns (c .before .before .before .before .before .before .before .before .args .n) (c .before .before .before .before .before .before .before .before .args .list)) s (c .before .before .before .before .before .before .before .before .args .r)) _ (c .before .before .before .before .before .before .before .before .fits .sum .sfits)

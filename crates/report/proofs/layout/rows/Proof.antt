@@ -41,7 +41,7 @@ same-length c = search needs
 
 returns : tie.Need-returns Inv-loop μ-loop
 unfolding rowsOf
-returns c = 
+returns c =
     let l = c .before .loop in
     let a = c .before .before .before .args in
     let all-rows : l .r ≡ a .n = omega (arith, l .inv .0, c .loop-test .left) in

@@ -31,17 +31,17 @@ loop-less : tie.Need-loop-less Inv-loop μ-loop
 loop-less c = search needs
 
 loop-again : tie.Need-loop-again Inv-loop μ-loop
-loop-again c = 
+loop-again c =
     let l = c .before .before .before .before .loop in
     (omega arith, sym (member-passes isDigit 0 _ (l .i) (c .before .before .before .loop-test .taken) (sym (c .before .is-digit .ensures) ∙ c .if1 .taken)) ∙ l .inv .1)
 
 returns : tie.Need-returns Inv-loop μ-loop
-returns c = 
+returns c =
     let l = c .before .before .before .before .loop in
     sym (member-fails isDigit 0 _ (l .i) (c .before .before .before .loop-test .taken) (sym (c .before .is-digit .ensures) ∙ c .if1 .left)) ∙ l .inv .1
 
 returns-2 : tie.Need-returns-2 Inv-loop μ-loop
-returns-2 c = 
+returns-2 c =
     let l = c .before .loop in
     sym (members-over isDigit _ (l .i) (c .loop-test .left)) ∙ l .inv .1
 

@@ -31,12 +31,12 @@ loop-less : tie.Need-loop-less Inv-loop μ-loop
 loop-less c = search needs
 
 loop-again : tie.Need-loop-again Inv-loop μ-loop
-loop-again c = 
+loop-again c =
     let l = c .before .before .before .loop in
     (omega arith, omega (arith, c .continued .ensures), cap-turn _ (l .i) (l .n) _ (c .before .before .loop-test .taken) (c .continued .ensures) ∙ l .inv .2)
 
 returns : tie.Need-returns Inv-loop μ-loop
-returns c = 
+returns c =
     let l = c .before .loop in
     sym (cap-over _ (l .i) (l .n) (c .loop-test .left) (l .inv .1)) ∙ l .inv .2
 

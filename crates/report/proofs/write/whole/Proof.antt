@@ -25,7 +25,7 @@ same-length : tie.Need-same-length
 same-length c = search needs
 
 returns : tie.Need-returns
-returns c = 
+returns c =
     let z = c .before .before .before .before .before .before .before .before .before .before .before .before .args .z in
     named (negative-text z _ (c .before .before .before .before .before .before .before .before .before .before .before .before .fits .z .sfits) (c .before .before .before .before .before .before .before .before .before .before .if1 .taken) (c .before .before .before .magnitude .ensures)) (then (c .before .before .before .before .before .before .before .text .ensures) (c .before .before .decimal .ensures))
 
@@ -39,7 +39,7 @@ same-length-2 : tie.Need-same-length-2
 same-length-2 c = search needs
 
 returns-2 : tie.Need-returns-2
-returns-2 c = 
+returns-2 c =
     let z = c .before .before .before .before .before .before .before .args .z in
     named (other-text z _ (c .before .before .before .before .before .before .before .fits .z .sfits) (c .before .before .before .before .before .if1 .left) (c .before .before .before .magnitude2 .ensures)) (c .before .before .decimal2 .ensures)
 
