@@ -8,3 +8,5 @@ pub mod Rows
 pub mod Whole
 pub mod Alike
 pub mod Lines
+pub mod Fits
+pub mod Lowest

@@ -12,12 +12,12 @@ use lib.Seq.{sets, getD-take, length-take-le, drop-nil}
 use borrow.Author.Tests.{leb-true, le-leb, lt-leb, eq-eqb, ne-eqb}
 use Rattle.whole.proofs.Ring.{abs-neg}
 use Rattle.exact.specs.Value.{signed}
-use Rattle.report.specs.Text.{Bytes, text, each}
+use Rattle.report.specs.Text.{Bytes}
 use Rattle.report.specs.Written.{Wrote}
 use Rattle.report.specs.Words.{all, words, wordsFrom, orderOf, negative, digitsOf, isNumber, value, numberOf, held}
 use Rattle.report.specs.Read.{FirstWord, Numbers}
 use Rattle.report.specs.Entries.{columns, SmallList, Square}
-use Rattle.report.specs.Report.{small, matrixReport, numbersReport, orderExpected, entriesExpected, entriesReport, wordsReport, reportOf, atStart}
+use Rattle.report.specs.Report.{small, refusal6, matrixReport, numbersReport, orderExpected, entriesExpected, entriesReport, wordsReport, reportOf, atStart}
 use Rattle.report.proofs.Signs.{differ}
 use Rattle.report.proofs.Reading.{agree}
 use Rattle.report.proofs.Writing.{sets-past}
@@ -34,7 +34,7 @@ pub record Ordered (n : ℕ) : Type 0 where
 none : Ordered 0
 none = record { most = omega arith; least = λ some. absurd (some refl) }
 
-ordered : (w : Bytes) → Ordered (orderOf w)
+pub ordered : (w : Bytes) → Ordered (orderOf w)
 unfolding orderOf
 ordered [] = none
 ordered (b ∷ []) = by-least (leb 50 b) refl
@@ -124,7 +124,7 @@ module _ (line : Bytes) (from n : ℕ) (good : Bool) (list : List ℤ) (read : N
     tested-is = ap (all small) (read .read is-good) ∙ all-small-same (wordsFrom line from)
 
     -- a number beyond 1024
-    pub beyond : all small (take (n * n) list) ≡ false → text "refusal 6: an entry is not a whole number of magnitude at most 1024\n" ≡ entriesReport n (wordsFrom line from)
+    pub beyond : all small (take (n * n) list) ≡ false → refusal6 ≡ entriesReport n (wordsFrom line from)
     unfolding numbersReport
     beyond e = rw (sym tested-is ∙ e) at numbers-follow
 

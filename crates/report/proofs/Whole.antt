@@ -17,7 +17,7 @@ use Rattle.engine.specs.Engine.{oneBit}
 use Rattle.engine.proofs.Signed.{back}
 use Rattle.report.specs.Text.{Bytes, text, whole}
 use Rattle.report.specs.Written.{Wrote}
-use Rattle.report.specs.Report.{rowsOf, exactness, comesBack, inverseReport, sumReport, matrixReport}
+use Rattle.report.specs.Report.{rowsOf, exactness, comesBack, matrixHead, sumHead, refusal2, inverseReport, sumReport, matrixReport}
 use Rattle.report.proofs.Signs.{held}
 use Rattle.report.proofs.Writing.{named}
 
@@ -31,7 +31,7 @@ module _ {l l′ : Bytes} {at at′ : ℕ} (n : ℕ) (m : Matrix) where
   module _ (s : ℤ) (fits : mag s < 2 ^ 63) (is : s ≡ signed-sum n m) where
     -- a sum of zero
     pub zero-text : ofZ w64 s ≡ 0
-        → Wrote l at (text "the matrix, from entries given column by column:\n" ++ rowsOf false n m (held s) ++ text "its signed sum: " ++ whole (held s) ++ text "\n" ++ text "refusal 2: the signed sum is zero, so there is no inverse\n") l′ at′
+        → Wrote l at (matrixHead ++ rowsOf false n m (held s) ++ sumHead ++ whole (held s) ++ text "\n" ++ refusal2) l′ at′
         → Wrote l at (matrixReport n m) l′ at′
     unfolding sumReport
     zero-text zero w =
@@ -40,7 +40,7 @@ module _ {l l′ : Bytes} {at at′ : ℕ} (n : ℕ) (m : Matrix) where
 
     -- any other sum
     pub inverse-follows : (ofZ w64 s ≡ 0 → ⊥)
-        → Wrote l at (text "the matrix, from entries given column by column:\n" ++ rowsOf false n m (held s) ++ text "its signed sum: " ++ whole (held s) ++ text "\n" ++ inverseReport n m (held s)) l′ at′
+        → Wrote l at (matrixHead ++ rowsOf false n m (held s) ++ sumHead ++ whole (held s) ++ text "\n" ++ inverseReport n m (held s)) l′ at′
         → Wrote l at (matrixReport n m) l′ at′
     unfolding sumReport
     inverse-follows some w =

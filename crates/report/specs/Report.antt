@@ -1,6 +1,7 @@
 -- The report of a line of words: an order, then the entries of a matrix column by column. What is printed is taken from the exact engine's own definitions.
 -- Assumes nothing.
-use Prim.Native.Nat.{ℕ, zero, suc, _*_, _/_, _%_}
+use Prim.Native.Nat.{ℕ, zero, suc, _*_, _/_, _%_, _^_, _≤_}
+use mathlib.Core.Path.{_≡_}
 use mathlib.Core.Bool.{Bool, true, false, cond, _&&_}
 use mathlib.Core.List.{List, [], _∷_, _++_, map}
 use lib.Dec.{leb, eqb}
@@ -65,6 +66,27 @@ comesBack n exact =
     (cond (eqb n 4) (text "what it moves comes back exactly: every whole vector with entries up to 64\n") (text "what it moves comes back exactly: every whole vector with entries up to 32768\n"))
     (text "what it moves need not come back exactly, since the inverse is rounded\n")
 
+-- before the matrix, and before its sum
+abbrev pub matrixHead : Bytes
+matrixHead = text "the matrix, from entries given column by column:\n"
+
+abbrev pub sumHead : Bytes
+sumHead = text "its signed sum: "
+
+-- document 01's refusals, with their numbers and causes
+abbrev pub refusal2 : Bytes
+refusal2 = text "refusal 2: the signed sum is zero, so there is no inverse\n"
+
+abbrev pub refusal6 : Bytes
+refusal6 = text "refusal 6: an entry is not a whole number of magnitude at most 1024\n"
+
+-- what was expected
+abbrev pub orderExpected : Bytes
+orderExpected = text "expected an order first, 2, 3 or 4, then the entries column by column\n"
+
+unfoldable pub entriesExpected : ℕ → Bytes
+entriesExpected n = text "expected " ++ decimal (n * n) ++ text " whole numbers after the order, column by column\n"
+
 -- ---- the report
 
 -- where there is an inverse
@@ -74,9 +96,8 @@ inverseReport n m s = exactness (oneBit (natAbs s)) ++ rowsOf true n m s ++ come
 -- the matrix and its signed sum, then refusal 2 or the inverse
 unfoldable pub sumReport : ℕ → Matrix → ℤ → Bytes
 sumReport n m s =
-    text "the matrix, from entries given column by column:\n" ++ rowsOf false n m s
-    ++ text "its signed sum: " ++ whole s ++ text "\n"
-    ++ cond (eqb (natAbs s) 0) (text "refusal 2: the signed sum is zero, so there is no inverse\n") (inverseReport n m s)
+    matrixHead ++ rowsOf false n m s ++ sumHead ++ whole s ++ text "\n"
+    ++ cond (eqb (natAbs s) 0) refusal2 (inverseReport n m s)
 
 abbrev pub matrixReport : ℕ → Matrix → Bytes
 matrixReport n m = sumReport n m (signed-sum n m)
@@ -87,16 +108,7 @@ small z = leb (natAbs z) 1024
 
 -- whole numbers: refusal 6 unless each is of magnitude at most 1024
 unfoldable pub numbersReport : ℕ → List ℤ → Bytes
-numbersReport n zs =
-    cond (all small zs) (matrixReport n (columns n zs))
-    (text "refusal 6: an entry is not a whole number of magnitude at most 1024\n")
-
--- what was expected
-abbrev pub orderExpected : Bytes
-orderExpected = text "expected an order first, 2, 3 or 4, then the entries column by column\n"
-
-unfoldable pub entriesExpected : ℕ → Bytes
-entriesExpected n = text "expected " ++ decimal (n * n) ++ text " whole numbers after the order, column by column\n"
+numbersReport n zs = cond (all small zs) (matrixReport n (columns n zs)) refusal6
 
 -- an order and the other words: as many whole numbers as the matrix has entries
 unfoldable pub entriesReport : ℕ → List Bytes → Bytes
@@ -114,3 +126,18 @@ reportOf line = wordsReport (words line)
 -- a text at the start of what is lent, as much of it as there is room for, and after it what stood there
 abbrev pub atStart : Bytes → Bytes → Bytes
 atStart before t = take (length before) t ++ drop (length t) before
+
+-- ---- what is claimed of these, beside the promise
+
+-- 2048 bytes have room for every report; shown in proofs/Fits.antt
+abbrev pub EveryReportFits : Type 0
+EveryReportFits = (line : Bytes) → length (reportOf line) ≤ 2048
+
+-- the fraction q is a / b, and no two divides both its numbers
+pub record Lowest (a b : ℕ) (q : Ratio) : Type 0 where
+  pub value : q .over * b ≡ a * q .under
+  pub odd : q .over % 2 ≡ 0 → q .under % 2 ≡ 0 → ⊥
+
+-- over a power of two that 64 bits hold the halved fraction is in lowest terms; shown in proofs/Lowest.antt
+abbrev pub LowestTerms : Type 0
+LowestTerms = (a k : ℕ) → k ≤ 63 → Lowest a (2 ^ k) (halved 63 a (2 ^ k))
