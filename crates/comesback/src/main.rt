@@ -11,27 +11,34 @@ struct Words {
     length: usize,
 }
 
+// A word from a place on.
+fn word(line: &mut [u8], at: usize, i: usize) -> Words
+    requires { ⌜ at ≤ length (now line) ⌝ }
+    ensures { λ r. ⌜ r .length ≤ length (now (line .exit)) ⌝ }
+{
+    let n = os::arg(i, &mut line[at..]);
+    Words {
+        whole: os::errno() == 0,
+        length: at + n,
+    }
+}
+
 // A word more, after a space unless it is the first.
 fn append(line: &mut [u8], at: usize, i: usize) -> Words
     requires { ⌜ at ≤ length (now line) ⌝ }
     ensures { λ r. ⌜ r .length ≤ length (now (line .exit)) ⌝ }
 {
-    let mut from = at;
-    if 1 < i {
-        if at == line.len() {
-            return Words {
-                whole: false,
-                length: at,
-            };
-        }
-        line[at] = b' ';
-        from = at + 1;
+    if i == 1 {
+        return word(line, at, i);
     }
-    let n = os::arg(i, &mut line[from..]);
-    Words {
-        whole: os::errno() == 0,
-        length: from + n,
+    if at == line.len() {
+        return Words {
+            whole: false,
+            length: at,
+        };
     }
+    line[at] = b' ';
+    word(line, at + 1, i)
 }
 
 // The words of the command, with a space between two.
