@@ -1,5 +1,4 @@
 // Reports of good and bad lines. Each is written out whole, and the stored output holds what it must be: tools/reports.py worked it out.
-ghost use Prim.Native.Nat.{_≤_};
 use crate::count::Count;
 use libc::STDOUT_FILENO;
 
@@ -50,18 +49,16 @@ const LINES: [[u8; 49]; 39] = [
     *b"2 1x 0 0 1025|                                   ",
 ];
 
-// How long a line is.
-fn length(row: [u8; 49]) -> usize
-    ensures { λ r. ⌜ r ≤ 49 ⌝ }
-{
-    let mut i: usize = 0;
-    while i < 49 {
+// The line of a row: what stands before its bar.
+fn line(row: &[u8]) -> &[u8] {
+    let mut i = 0;
+    while i < row.len() {
         if row[i] == b'|' {
-            return i;
+            return &row[..i];
         }
         i += 1;
     }
-    i
+    row
 }
 
 // Whether every byte from a place on is as it was before.
@@ -115,10 +112,9 @@ fn case(c: Count, line: &[u8]) -> Count {
     c.case(b"report", false)
 }
 
-// The line of a row.
+// The case of a row.
 fn row_case(c: Count, row: [u8; 49]) -> Count {
-    let n = length(row);
-    case(c, &row[..n])
+    case(c, line(&row))
 }
 
 // Every line.
