@@ -15,22 +15,20 @@ use lib.Signed.{mag}
 use lib.Ieee.{Float, binary64, ofInt}
 use mir.Syntax.{w64}
 use mir.Val.{toZ, ofZ}
-use Rattle.vector.specs.Refusals.{Outcome, given, after}
+use Rattle.vector.specs.Refusals.{Outcome, given}
 use Rattle.vector.specs.Vectors.{vector2, vector3, vector4}
 use Rattle.vector.specs.declared.refusal.Refusal.{Refusal}
 use Rattle.vector.proofs.Checks.{within}
 use Rattle.matrix.specs.Records.{matrix2, matrix3, matrix4}
-use Rattle.matrix.specs.Places.{columnBelow, rowBelow}
 use Rattle.matrix.specs.declared.places.Column.{Column}
 use Rattle.matrix.specs.declared.places.Row.{Row}
 use Rattle.matrix.specs.declared.records.Matrix2.{Matrix2}
 use Rattle.matrix.specs.declared.records.Matrix3.{Matrix3}
 use Rattle.matrix.specs.declared.records.Matrix4.{Matrix4}
-use Rattle.whole.specs.Matrix.{Matrix}
 use Rattle.whole.specs.Order.{parity, skip, signed-sum}
 use Rattle.whole.proofs.Skip.{skip-le}
 use Rattle.whole.proofs.Expansion.{signed-sum-ext}
-use Rattle.exact.specs.Value.{Exact, Whole}
+use Rattle.exact.specs.Value.{Whole}
 use Rattle.exact.proofs.Integers.{exact-integer, exact-truncation}
 use Rattle.engine.specs.Whole.{Floats, wholeNumber, wholeEntries, numbers, floats2, floats3, floats4}
 use Rattle.engine.specs.Engine.{numberOutcome, taken, cofactorOf, signedSum, cofactor}

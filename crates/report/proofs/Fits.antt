@@ -1,9 +1,9 @@
 -- Every report fits in 2048 bytes: a number has 20 digits at most, and the sentences are what they are.
 -- Assumes nothing.
-use mathlib.Core.Path.{_≡_, refl, sym, ap, _∙_}
+use mathlib.Core.Path.{_≡_, refl}
 use mathlib.Core.Bool.{Bool, true, false, cond, _&&_}
 use mathlib.Core.List.{List, [], _∷_, _++_, map}
-use Prim.Native.Nat.{ℕ, zero, suc, _+_, _*_, _/_, _^_, _≤_, _<_}
+use Prim.Native.Nat.{ℕ, zero, suc, _+_, _*_, _/_, _^_, _≤_}
 use native.Mathlib.Nat.{le-trans, suc-mul, mul-le-mul-right}
 use native.Mathlib.Omega.{arith}
 use lib.Dec.{leb, eqb, lit≤}
@@ -17,8 +17,8 @@ use Rattle.report.specs.declared.fraction.Ratio.{Ratio}
 use Rattle.report.specs.Text.{Bytes, text, each, digit, higher, decimal, whole}
 use Rattle.report.specs.Words.{all, words, orderOf, isNumber, numberOf}
 use Rattle.report.specs.Entries.{columns}
-use Rattle.report.specs.Report.{reduced, ratioText, fraction, cell, rowOf, rowsOf, exactness, comesBack, inverseReport, sumReport, matrixReport, small, matrixHead, sumHead, refusal2, refusal6, numbersReport, orderExpected, entriesExpected, entriesReport, wordsReport, reportOf, EveryReportFits}
-use Rattle.report.proofs.Lines.{Ordered, ordered}
+use Rattle.report.specs.Report.{reduced, ratioText, fraction, cell, rowOf, rowsOf, exactness, comesBack, inverseReport, sumReport, matrixReport, small, matrixHead, sumHead, refusal2, refusal6, numbersReport, orderExpected, entriesExpected, entriesReport, wordsReport, EveryReportFits}
+use Rattle.report.proofs.Lines.{ordered}
 
 -- one text after another
 joined : (s t : Bytes) (a b : ℕ) → length s ≤ a → length t ≤ b → length (s ++ t) ≤ a + b

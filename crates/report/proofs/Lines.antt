@@ -2,21 +2,21 @@
 -- Assumes nothing.
 use mathlib.Core.Path.{_≡_, refl, sym, ap, _∙_, subst}
 use mathlib.Core.Bool.{Bool, true, false, cond, _&&_}
-use mathlib.Core.List.{List, [], _∷_, _++_, map}
+use mathlib.Core.List.{List, [], _∷_, map}
 use Prim.Native.Nat.{ℕ, zero, suc, _+_, _*_, _-_, _≤_, _<_, min}
 use native.Mathlib.Omega.{arith}
-use lib.Dec.{leb, eqb}
+use lib.Dec.{leb}
 use lib.IntN.{ℤ, pos, natAbs}
-use lib.ListN.{length, take, drop, getD, set}
+use lib.ListN.{length, take, getD, set}
 use lib.Seq.{sets, getD-take, length-take-le, drop-nil}
-use borrow.Author.Tests.{leb-true, le-leb, lt-leb, eq-eqb, ne-eqb}
+use borrow.Author.Tests.{leb-true, eq-eqb, ne-eqb}
 use Rattle.whole.proofs.Ring.{abs-neg}
 use Rattle.exact.specs.Value.{signed}
 use Rattle.report.specs.Text.{Bytes}
 use Rattle.report.specs.Written.{Wrote}
-use Rattle.report.specs.Words.{all, words, wordsFrom, orderOf, negative, digitsOf, isNumber, value, numberOf, held}
+use Rattle.report.specs.Words.{all, words, wordsFrom, orderOf, negative, digitsOf, value, numberOf, held}
 use Rattle.report.specs.Read.{FirstWord, Numbers}
-use Rattle.report.specs.Entries.{columns, SmallList, Square}
+use Rattle.report.specs.Entries.{columns, SmallList}
 use Rattle.report.specs.Report.{small, refusal6, matrixReport, numbersReport, orderExpected, entriesExpected, entriesReport, wordsReport, reportOf, atStart}
 use Rattle.report.proofs.Signs.{differ}
 use Rattle.report.proofs.Reading.{agree}

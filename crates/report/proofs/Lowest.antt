@@ -5,10 +5,10 @@ use mathlib.Core.Bool.{Bool, true, false, cond, _&&_}
 use Prim.Native.Nat.{ℕ, zero, suc, _*_, _/_, _%_, _^_, _≤_}
 use native.Mathlib.Nat.{mul-assoc, mul-comm, pow-suc}
 use native.Mathlib.Omega.{arith}
-use lib.Dec.{eqb, lit≤}
+use lib.Dec.{eqb}
 use borrow.Author.Tests.{eqb-true, eqb-false}
 use Rattle.report.specs.declared.fraction.Ratio.{Ratio}
-use Rattle.report.specs.Report.{ratio, halved, Lowest, LowestTerms}
+use Rattle.report.specs.Report.{ratio, halved, LowestTerms}
 
 -- twice both sides
 twice : (o a b u : ℕ) → o * b ≡ a * u → o * (b * 2) ≡ a * 2 * u

@@ -1,9 +1,9 @@
 -- Whole numbers as the code holds them, in 64 bits with a sign, and how they are written.
 -- Assumes nothing.
-use mathlib.Core.Path.{_≡_, refl, sym, ap, _∙_, subst}
+use mathlib.Core.Path.{_≡_, sym, ap, _∙_, subst}
 use mathlib.Core.Bool.{Bool, true, false}
 use mathlib.Core.List.{_++_}
-use Prim.Native.Nat.{ℕ, suc, _^_, _≤_, _<_, min}
+use Prim.Native.Nat.{ℕ, _^_, _≤_, _<_, min}
 use native.Mathlib.Nat.{lt-of-le-of-lt}
 use native.Mathlib.Omega.{arith}
 use lib.Dec.{T, lit<}

@@ -4,7 +4,7 @@ use native.Mathlib.Omega.{arith}
 use Rattle.report.proofs.Asking.{small-passes, small-fails, small-over}
 use mathlib.Core.Path.{_≡_, refl, sym, _∙_}
 use Prim.Native.Nat.{_≤_, _-_}
-use lib.ListN.{length, take, drop}
+use lib.ListN.{take, drop}
 use Rattle.report.specs.Words.{all}
 use Rattle.report.specs.Report.{small}
 use Rattle.report.proofs.ask.all_small.Statement.{statement}

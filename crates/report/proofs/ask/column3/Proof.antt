@@ -1,6 +1,6 @@
 -- Each float is its number's. Assumes nothing.
 use Rattle.report.proofs.Asking.{fewer}
-use mathlib.Core.Path.{_∙_, sym}
+use mathlib.Core.Path.{_∙_}
 use native.Mathlib.Omega.{arith}
 use borrow.Author.Needs.{needs}
 use Rattle.report.proofs.ask.column3.Statement.{statement}

@@ -1,6 +1,5 @@
 -- The two comparisons decide. Assumes nothing.
 use borrow.Author.Tests.{lt-leb, le-leb}
-use Rattle.report.specs.Words.{isDigit}
 use Rattle.report.proofs.read.is_digit.Statement.{statement}
 use Rattle.report.proofs.read.is_digit.Tie as tie
 

@@ -1,6 +1,6 @@
 -- The magnitude is read and then given its sign. Assumes nothing.
 use Rattle.report.proofs.Signs.{read-fits, read-negative, read-other}
-use mathlib.Core.Path.{sym, ap, _∙_}
+use mathlib.Core.Path.{sym, _∙_}
 use borrow.Author.Needs.{needs}
 use Rattle.report.proofs.read.number_of.Statement.{statement}
 use Rattle.report.proofs.read.number_of.Tie as tie

@@ -1,7 +1,7 @@
 -- One byte, from 2 to 4. Assumes nothing.
 use Rattle.report.proofs.Reading.{one-byte, other-length}
 use borrow.Author.Tests.{lt-leb, le-leb}
-use mathlib.Core.Path.{sym, _∙_}
+use mathlib.Core.Path.{sym}
 use borrow.Author.Needs.{needs}
 use Rattle.report.proofs.read.order_of.Statement.{statement}
 use Rattle.report.proofs.read.order_of.Tie as tie

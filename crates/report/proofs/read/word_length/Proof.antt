@@ -3,7 +3,6 @@ use Rattle.report.proofs.Reading.{NoSpace, no-space-yet, no-space-turn,
 use Prim.Native.Nat.{_-_}
 use lib.ListN.{length}
 use borrow.Author.Needs.{needs}
-use native.Mathlib.Omega.{arith}
 use Rattle.report.proofs.read.word_length.Statement.{statement}
 use Rattle.report.proofs.read.word_length.Tie as tie
 

@@ -1,7 +1,6 @@
 -- A turn writes the digit of one power, if the number reaches it. Assumes nothing.
 use mathlib.Core.Path.{refl}
 use mathlib.Core.List.{[]}
-use native.Mathlib.Omega.{arith}
 use borrow.Author.Needs.{needs}
 use lib.Dec.{lit≤}
 use Rattle.report.proofs.Writing.{Digits, nothing, digits-turn, digits-end, power-positive}

@@ -1,5 +1,4 @@
 -- A turn writes one byte more. Assumes nothing.
-use mathlib.Core.Path.{sym}
 use Prim.Native.Nat.{_-_, _≤_}
 use native.Mathlib.Omega.{arith}
 use borrow.Author.Needs.{needs}

@@ -1,9 +1,6 @@
 -- A number below zero has its sign first. Assumes nothing.
-use mathlib.Core.List.{_++_}
 use Rattle.report.proofs.Writing.{then, named}
-use Rattle.report.proofs.Signs.{negative-text, other-text, tested}
-use mathlib.Core.Path.{ap, _∙_}
-use mathlib.Core.Bool.{true, false}
+use Rattle.report.proofs.Signs.{negative-text, other-text}
 use Rattle.report.specs.Text.{text, decimal}
 use borrow.Author.Needs.{needs}
 use Rattle.report.proofs.write.whole.Statement.{statement}
