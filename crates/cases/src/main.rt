@@ -7,6 +7,7 @@ mod inverse;
 mod moves;
 mod places;
 mod records;
+mod reports;
 mod rotations;
 mod same;
 mod vectors;
@@ -22,5 +23,6 @@ fn main() {
     let c = rotations::run(c);
     let c = engine_cases::run(c);
     let c = moves::run(c);
+    let c = reports::run(c);
     c.print();
 }

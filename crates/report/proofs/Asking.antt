@@ -1,0 +1,192 @@
+-- The engine's answers about the floats of small whole numbers are the sums and cofactors of the numbers themselves, at every order.
+-- Assumes nothing.
+use mathlib.Core.Path.{_≡_, refl, sym, ap, _∙_, subst}
+use mathlib.Core.Bool.{Bool, true, false}
+use mathlib.Core.List.{List}
+use Prim.Native.Nat.{ℕ, suc, _+_, _*_, _-_, _^_, _≤_, _<_, suc-le-suc}
+use native.Mathlib.Nat.{lt-of-le-of-lt, lt-of-lt-of-le, suc-mul, mul-le-mul-right, le-trans}
+use native.Mathlib.Omega.{arith}
+use lib.Dec.{T, lit<}
+use lib.ListN.{length, take, drop, getD}
+use lib.Seq.{length-take-le, getD-take}
+use borrow.Author.Tests.{le-leb, lt-leb}
+use lib.IntN.{ℤ, pos, natAbs, _*ℤ_}
+use lib.Signed.{mag}
+use lib.Ieee.{Float, binary64, ofInt}
+use mir.Syntax.{w64}
+use mir.Val.{toZ, ofZ}
+use Rattle.vector.specs.Refusals.{Outcome, given}
+use Rattle.vector.specs.Vectors.{vector2, vector3, vector4}
+use Rattle.vector.specs.declared.refusal.Refusal.{Refusal}
+use Rattle.vector.proofs.Checks.{within}
+use Rattle.matrix.specs.Records.{matrix2, matrix3, matrix4}
+use Rattle.matrix.specs.declared.places.Column.{Column}
+use Rattle.matrix.specs.declared.places.Row.{Row}
+use Rattle.matrix.specs.declared.records.Matrix2.{Matrix2}
+use Rattle.matrix.specs.declared.records.Matrix3.{Matrix3}
+use Rattle.matrix.specs.declared.records.Matrix4.{Matrix4}
+use Rattle.whole.specs.Order.{parity, skip, signed-sum}
+use Rattle.whole.proofs.Skip.{skip-le}
+use Rattle.whole.proofs.Expansion.{signed-sum-ext}
+use Rattle.exact.specs.Value.{Whole}
+use Rattle.exact.proofs.Integers.{exact-integer, exact-truncation}
+use Rattle.engine.specs.Whole.{Floats, wholeNumber, wholeEntries, numbers, floats2, floats3, floats4}
+use Rattle.engine.specs.Engine.{numberOutcome, taken, cofactorOf, signedSum, cofactor}
+use Rattle.engine.specs.declared.answers.NumberAnswer.{NumberAnswer}
+use Rattle.engine.specs.declared.answers.NumberAnswer.the-variants.{Given, Refused}
+use Rattle.engine.proofs.Signed.{back, small-back}
+use Rattle.engine.proofs.Places.{below-two, below-three, below-four}
+use Rattle.engine.proofs.Taken.{whole-entries}
+use Rattle.engine.proofs.Outcomes.{taken-yes}
+use Rattle.report.specs.Words.{all}
+use Rattle.report.specs.Report.{small}
+use Rattle.report.proofs.Reading.{member-passes, member-fails, members-over}
+use Rattle.report.specs.Entries.{columns, SmallList, floatAt, AsFloats, numberIn}
+
+-- ---- the list
+
+-- fewer numbers are small too
+pub fewer : {k j : ℕ} {list : List ℤ} → j ≤ k → SmallList k list → SmallList j list
+fewer h small = record { each = λ i l. small .each i (omega arith) }
+
+-- a place of a matrix is a place of the list
+pub place : (n c r : ℕ) → c < n → r < n → c * n + r < n * n
+place n c r h l = omega (arith, mul-le-mul-right {m = suc c} {n = n} n h, suc-mul c n)
+
+-- which has room for the entries
+pub room : (n : ℕ) → n ≤ 4 → n * n ≤ 16
+room n h = le-trans (mul-le-mul-right {m = n} {n = 4} n h) (omega arith)
+
+-- a number among the first is tested, and the rest decide, or it is beyond 1024
+module _ (list : List ℤ) (count i : ℕ) (within-list : count ≤ length list) (h : i < count) (m : ℕ) (fits : mag (getD list i (pos 0)) < 2 ^ 63) (is-held : m ≡ natAbs (toZ w64 (ofZ w64 (getD list i (pos 0))))) where
+  is : m ≡ natAbs (getD list i (pos 0))
+  is = is-held ∙ ap natAbs (back (getD list i (pos 0)) fits)
+
+  there : i < length (take count list)
+  there = rw (length-take-le count list within-list) h
+
+  pub small-passes : m ≤ 1024 → all small (drop i (take count list)) ≡ all small (drop (i + 1) (take count list))
+  small-passes few = member-passes small (pos 0) (take count list) i there (rw (getD-take count list i (pos 0) h, ← is) (le-leb m 1024 few))
+
+  pub small-fails : 1024 < m → all small (drop i (take count list)) ≡ false
+  small-fails beyond = member-fails small (pos 0) (take count list) i there (rw (getD-take count list i (pos 0) h, ← is) (lt-leb m 1024 beyond))
+
+pub small-over : (list : List ℤ) (count i : ℕ) → count ≤ length list → count ≤ i → all small (drop i (take count list)) ≡ true
+small-over list count i within-list h = members-over small (take count list) i (rw (length-take-le count list within-list) h)
+
+-- a number's float
+pub float-is : (list : List ℤ) (i : ℕ) (x : Float) → SmallList (i + 1) list → x ≡ ofInt binary64 (toZ w64 (ofZ w64 (getD list i (pos 0)))) → x ≡ floatAt list i
+float-is list i x small e = e ∙ ap (ofInt binary64) (small-back (getD list i (pos 0)) (small .each i (omega arith)) (lit< tt))
+
+-- ---- the records
+
+module _ (list : List ℤ) where
+  -- the records of the list's floats
+  abbrev pub record2 : Matrix2
+  record2 = matrix2 (vector2 (floatAt list 0) (floatAt list 1)) (vector2 (floatAt list 2) (floatAt list 3))
+
+  abbrev pub record3 : Matrix3
+  record3 =
+      matrix3 (vector3 (floatAt list 0) (floatAt list 1) (floatAt list 2)) (vector3 (floatAt list 3) (floatAt list 4) (floatAt list 5))
+      (vector3 (floatAt list 6) (floatAt list 7) (floatAt list 8))
+
+  abbrev pub record4 : Matrix4
+  record4 =
+      matrix4 (vector4 (floatAt list 0) (floatAt list 1) (floatAt list 2) (floatAt list 3)) (vector4 (floatAt list 4) (floatAt list 5) (floatAt list 6) (floatAt list 7))
+      (vector4 (floatAt list 8) (floatAt list 9) (floatAt list 10) (floatAt list 11)) (vector4 (floatAt list 12) (floatAt list 13) (floatAt list 14) (floatAt list 15))
+
+  pub as-floats2 : (m : Matrix2) → m ≡ record2 → AsFloats 2 list (floats2 m)
+  as-floats2 m is =
+      subst (λ (m : Matrix2). AsFloats 2 list (floats2 m)) (sym is)
+      (record {
+        each = λ c r h l. below-two (λ c. floats2 record2 c r ≡ floatAt list (c * 2 + r))
+            (below-two (λ r. floats2 record2 0 r ≡ floatAt list (0 * 2 + r)) refl refl r l)
+            (below-two (λ r. floats2 record2 1 r ≡ floatAt list (1 * 2 + r)) refl refl r l)
+            c h;
+      })
+
+  pub as-floats3 : (m : Matrix3) → m ≡ record3 → AsFloats 3 list (floats3 m)
+  as-floats3 m is =
+      subst (λ (m : Matrix3). AsFloats 3 list (floats3 m)) (sym is)
+      (record {
+        each = λ c r h l. below-three (λ c. floats3 record3 c r ≡ floatAt list (c * 3 + r))
+            (below-three (λ r. floats3 record3 0 r ≡ floatAt list (0 * 3 + r)) refl refl refl r l)
+            (below-three (λ r. floats3 record3 1 r ≡ floatAt list (1 * 3 + r)) refl refl refl r l)
+            (below-three (λ r. floats3 record3 2 r ≡ floatAt list (2 * 3 + r)) refl refl refl r l)
+            c h;
+      })
+
+  pub as-floats4 : (m : Matrix4) → m ≡ record4 → AsFloats 4 list (floats4 m)
+  as-floats4 m is =
+      subst (λ (m : Matrix4). AsFloats 4 list (floats4 m)) (sym is)
+      (record {
+        each = λ c r h l. below-four (λ c. floats4 record4 c r ≡ floatAt list (c * 4 + r))
+            (below-four (λ r. floats4 record4 0 r ≡ floatAt list (0 * 4 + r)) refl refl refl refl r l)
+            (below-four (λ r. floats4 record4 1 r ≡ floatAt list (1 * 4 + r)) refl refl refl refl r l)
+            (below-four (λ r. floats4 record4 2 r ≡ floatAt list (2 * 4 + r)) refl refl refl refl r l)
+            (below-four (λ r. floats4 record4 3 r ≡ floatAt list (3 * 4 + r)) refl refl refl refl r l)
+            c h;
+      })
+
+  -- ---- the numbers
+
+  -- a small number's float is taken, and its whole number is the number
+  taken-float : (z : ℤ) → natAbs z ≤ 1024 → Whole 1024 (ofInt binary64 z)
+  taken-float z h = record { number = z; exact = exact-integer binary64 z (lt-of-le-of-lt h (lit< tt)); within = h }
+
+  number-back : (z : ℤ) → natAbs z ≤ 1024 → wholeNumber (ofInt binary64 z) ≡ z
+  number-back z h = exact-truncation 63 (exact-integer binary64 z (lt-of-le-of-lt h (lit< tt))) (lt-of-le-of-lt h (lit< tt))
+
+  module _ (n : ℕ) (e : Floats) (small : SmallList (n * n) list) (floats : AsFloats n list e) where
+    small-place : (c r : ℕ) → c < n → r < n → natAbs (columns n list c r) ≤ 1024
+    small-place c r h l = small .each (c * n + r) (place n c r h l)
+
+    all-taken : taken n e ≡ given tt
+    all-taken = taken-yes n e (true-of (wholeEntries 1024 n e) (whole-entries 1024 n e (lit< tt) .1 (λ c r h l. rw (floats .each c r h l) (taken-float (columns n list c r) (small-place c r h l)))))
+      where
+        true-of : (b : Bool) → T b → b ≡ true
+        true-of true t = refl
+        true-of false t = absurd t
+
+    same : (c r : ℕ) → c < n → r < n → numbers e c r ≡ columns n list c r
+    same c r h l = rw (floats .each c r h l) (number-back (columns n list c r) (small-place c r h l))
+
+    -- the engine's sum
+    sum-is : (z : ℤ) (o : Outcome ℤ) → o ≡ signedSum n e → z ≡ numberIn o → z ≡ signed-sum n (columns n list)
+    sum-is z o answered given-is = given-is ∙ rw (answered, all-taken) (signed-sum-ext n (numbers e) (columns n list) same)
+
+    -- the engine's cofactor
+    cofactor-is : (z : ℤ) (o : Outcome ℤ) (c : Column) (r : Row) → c .0 < n → r .0 < n → o ≡ cofactor n e c r → z ≡ numberIn o → z ≡ cofactorOf n (columns n list) (c .0) (r .0)
+    cofactor-is z o c r h l answered given-is =
+        given-is ∙ rw (answered, within n (c .0) h, within n (r .0) l, all-taken)
+        (ap (λ (k : ℤ). parity (c .0) *ℤ parity (r .0) *ℤ k)
+        (signed-sum-ext (n - 1) (λ d s. numbers e (skip (c .0) d) (skip (r .0) s)) (λ d s. columns n list (skip (c .0) d) (skip (r .0) s))
+        (λ d s a b. same (skip (c .0) d) (skip (r .0) s) (lt-of-lt-of-le (suc-le-suc (skip-le (n - 1) (c .0) d (omega arith) a)) (omega arith)) (lt-of-lt-of-le (suc-le-suc (skip-le (n - 1) (r .0) s (omega arith) b)) (omega arith)))))
+
+-- ---- the answer's number
+
+pub given-number : (a : NumberAnswer) (z : ℤ) → mag z < 2 ^ 63 → a ≡ Given z → toZ w64 (ofZ w64 z) ≡ numberIn (numberOutcome a)
+given-number a z fits is = rw (is, back z fits)
+
+pub refused-number : (a : NumberAnswer) (cause : Refusal) → a ≡ Refused cause → pos 0 ≡ numberIn (numberOutcome a)
+refused-number a cause is = rw is
+
+-- ---- an arm of the match on the order: the code's n is k
+
+-- the last order
+pub last-order : {n : ℕ} → 2 ≤ n → n ≤ 4 → (n ≡ 2 → ⊥) → (n ≡ 3 → ⊥) → n ≡ 4
+last-order least most two three = omega (arith, two, three)
+
+module _ {n : ℕ} {list : List ℤ} (small : SmallList (n * n) list) (k : ℕ) (arm : n ≡ k) where
+  -- its numbers are small
+  pub small-arm : SmallList (k * k) list
+  small-arm = rw arm at small
+
+  module _ {e : Floats} (floats : AsFloats k list e) {z : ℤ} (fits : mag z < 2 ^ 63) (o : Outcome ℤ) (given-is : z ≡ numberIn o) where
+    -- the number that the code holds is the sum
+    pub arm-sum : o ≡ signedSum k e → toZ w64 (ofZ w64 z) ≡ signed-sum n (columns n list)
+    arm-sum answered = back z fits ∙ rw arm (sum-is list k e small-arm floats z o answered given-is)
+
+    -- and the cofactor
+    pub arm-cofactor : (c r : ℕ) → c < n → r < n → o ≡ cofactor k e (record { 0 = c }) (record { 0 = r }) → toZ w64 (ofZ w64 z) ≡ cofactorOf n (columns n list) c r
+    arm-cofactor c r h l answered = back z fits ∙ rw arm (cofactor-is list k e small-arm floats z o (record { 0 = c }) (record { 0 = r }) (rw arm at h) (rw arm at l) answered given-is)

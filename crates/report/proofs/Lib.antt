@@ -1,0 +1,12 @@
+pub mod Writing
+pub mod Signs
+pub mod Reading
+pub mod Listing
+pub mod Asking
+pub mod Fractions
+pub mod Rows
+pub mod Whole
+pub mod Alike
+pub mod Lines
+pub mod Fits
+pub mod Lowest

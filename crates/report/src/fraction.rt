@@ -1,0 +1,98 @@
+// A fraction of two whole numbers: its sign, its lowest terms over a power of two, and its text.
+ghost use mathlib.Core.Path.{_≡_};
+ghost use mathlib.Core.Bool.{cond};
+ghost use mathlib.Core.List.{[]};
+ghost use Prim.Native.Nat.{_≤_};
+ghost use lib.IntN.{pos, _*ℤ_};
+ghost use lib.ListN.{length};
+ghost use lib.Signed.{ltZ};
+ghost use Rattle.engine.specs.Engine.{oneBit};
+ghost use Rattle.report.specs.Text.{text as Text·text};
+ghost use Rattle.report.specs.Written.{Wrote};
+ghost use Rattle.report.specs.Report.{halved as Report·halved, reduced as Report·reduced, ratioText, fraction as Report·fraction};
+use crate::write;
+
+// Two numbers as a fraction.
+pub(crate) struct Ratio {
+    pub over: u64,
+    pub under: u64,
+}
+
+// Whether exactly one bit is set: whether the number is a power of two.
+pub(crate) fn one_bit(n: u64) -> bool
+    ensures { λ r. ⌜ r ≡ oneBit n ⌝ }
+{
+    u64::count_ones(n) == 1
+}
+
+// Both halved as long as both are even.
+fn halved(a: u64, b: u64) -> Ratio
+    ensures { λ r. ⌜ r ≡ Report·halved 63 a b ⌝ }
+{
+    let mut over = a;
+    let mut under = b;
+    let mut times: usize = 63;
+    while times > 0 {
+        if over % 2 != 0 {
+            return Ratio { over, under };
+        }
+        if under % 2 != 0 {
+            return Ratio { over, under };
+        }
+        over /= 2;
+        under /= 2;
+        times -= 1;
+    }
+    Ratio { over, under }
+}
+
+// In lowest terms over a power of two.
+fn reduced(a: u64, b: u64) -> Ratio
+    ensures { λ r. ⌜ r ≡ Report·reduced a b ⌝ }
+{
+    if one_bit(b) {
+        return halved(a, b);
+    }
+    Ratio { over: a, under: b }
+}
+
+// A fraction without its sign.
+fn unsigned(out: &mut [u8], at: usize, q: Ratio) -> usize
+    requires { ⌜ at ≤ length (now out) ⌝ }
+    ensures { λ r. ⌜ Wrote (now (out .entry)) at (ratioText q) (now (out .exit)) r ⌝ }
+{
+    let next = write::decimal(out, at, q.over);
+    if q.under == 1 {
+        return next;
+    }
+    let next = write::text(out, next, b"/");
+    write::decimal(out, next, q.under)
+}
+
+// A minus sign where the fraction is below zero.
+fn minus(out: &mut [u8], at: usize, k: i64, s: i64) -> usize
+    requires { ⌜ at ≤ length (now out) ⌝ }
+    ensures { λ r. ⌜ Wrote (now (out .entry)) at (cond (ltZ (k *ℤ s) (pos 0)) (Text·text "-") []) (now (out .exit)) r ⌝ }
+{
+    if k < 0 {
+        if 0 < s {
+            return write::text(out, at, b"-");
+        }
+        return at;
+    }
+    if 0 < k {
+        if s < 0 {
+            return write::text(out, at, b"-");
+        }
+    }
+    at
+}
+
+// The fraction k / s.
+pub(crate) fn fraction(out: &mut [u8], at: usize, k: i64, s: i64) -> usize
+    requires { ⌜ at ≤ length (now out) ⌝ }
+    ensures { λ r. ⌜ Wrote (now (out .entry)) at (Report·fraction k s) (now (out .exit)) r ⌝ }
+{
+    let next = minus(out, at, k, s);
+    unsigned(out, next, reduced(write::magnitude(k), write::magnitude(s)))
+}
