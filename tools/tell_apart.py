@@ -421,6 +421,8 @@ def some_value(program, rng, type_, wholes):
     if type_.startswith("["):
         inner, _, n = type_[1:-1].rpartition("; ")
         return [some_value(program, rng, inner, wholes) for _ in range(int(n))]
+    if type_.startswith("Matrix") and rng.random() < 0.05:
+        return program.call(program.of_record[(type_, "zero")], [])
     return (type_, {name: some_value(program, rng, t, wholes) for name, t in program.fields[type_]})
 
 
