@@ -67,7 +67,7 @@ fn signed_minor(m: [[i64; 4]; 4], n: usize, c: usize, r: usize) -> i64
     if (c + r) % 2 == 1 { 0 - minor } else { minor }
 }
 
-// The numbers without column c and row r; zeros take the room that is left.
+// The numbers without column c and row r; what stands in the room that is left is never read.
 fn without_place(m: [[i64; 4]; 4], c: usize, r: usize) -> [[i64; 4]; 4]
     requires { ⌜ Small 4 (wholes m) ⌝ }
     ensures { λ w. ⌜ ((d s : ℕ) → d < 3 → s < 3 → wholes w d s ≡ wholes m (skip c d) (skip r s)) ⌝ }
@@ -80,7 +80,7 @@ fn without_place(m: [[i64; 4]; 4], c: usize, r: usize) -> [[i64; 4]; 4]
     ]
 }
 
-// A column without its element r; a zero takes the room that is left.
+// A column without its element r; what stands in the room that is left is never read.
 fn without_row(column: [i64; 4], r: usize) -> [i64; 4]
     requires { ⌜ ((i : ℕ) → i < 4 → natAbs (getD column i (pos 0)) ≤ 1024) ⌝ }
     ensures { λ w. ⌜ ((s : ℕ) → s < 3 → getD w s (pos 0) ≡ getD column (skip r s) (pos 0)) ⌝ }
