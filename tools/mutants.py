@@ -11,8 +11,8 @@ Usage: tools/mutants.py [--seed N] [--count N] [--work DIR] [--resume FILE] [--l
     --list         print every mutant of the crates and try none
     --only NAME    try every mutant with this name and no others (a part of a name will do; may be given again)
 
-The crates by default: bits, vector, bulk, engine, matrix, migthumo. `whole`, `exact` and `reference` have no code. The
-programs `cases` and `replay` are left out: what they promise is what they write, which the gate compares and no prover.
+The crates by default: bits, vector, bulk, engine, matrix, migthumo, report. `whole`, `exact` and `reference` have no code.
+The programs `cases`, `replay` and `comesback` are left out: what they promise is what they write, which the gate compares and no prover.
 
 A mutant changes the body of one function, public or private, or the value of one constant; never a contract:
     operand    an operand exchanged for its neighbour: the two of - / % < <= (those of + * == != commute: the same
@@ -53,7 +53,7 @@ import sys
 import tempfile
 import time
 
-CRATES = ["bits", "vector", "bulk", "engine", "matrix", "migthumo"]
+CRATES = ["bits", "vector", "bulk", "engine", "matrix", "migthumo", "report"]
 KINDS = ["operand", "sign", "times", "column", "less", "equal", "constant", "statement", "arms"]
 # survivors that are equal programs, by the start of their names, each with the reason
 EQUAL = {
@@ -74,7 +74,7 @@ FIELDS = "xyzw"
 EXCHANGES = {"+": "-", "-": "+", "*": "/", "/": "*", "<": "<=", "<=": "<", ">": ">=", ">=": ">", "==": "!=", "!=": "==", "+=": "-=", "-=": "+=", "*=": "/=", "/=": "*="}
 KIND_OF = {"+": "sign", "-": "sign", "+=": "sign", "-=": "sign", "*": "times", "/": "times", "*=": "times", "/=": "times", "<": "less", "<=": "less", ">": "less", ">=": "less", "==": "equal", "!=": "equal"}
 POWER = {"*": 7, "/": 7, "%": 7, "+": 6, "-": 6, "<<": 5, ">>": 5, "&": 5, "^": 5, "|": 5, "<": 4, "<=": 4, ">": 4, ">=": 4, "==": 4, "!=": 4, "&&": 3, "||": 2, "=": 1, "+=": 1, "-=": 1, "*=": 1, "/=": 1}
-TOKEN = re.compile(r"(?P<skip>\s+|//[^\n]*)|0x[0-9a-f_]+|\d[\d_]*\.\d+(?:e-?\d+)?|\d[\d_]*|\w+|::|->|=>|==|!=|<=|>=|<<|>>|&&|\|\||[-+*/]=|\.\.=?|.", re.S)
+TOKEN = re.compile(r"(?P<skip>\s+|//[^\n]*)|b?\"(?:[^\"\\]|\\.)*\"|b'(?:[^'\\]|\\.)'|0x[0-9a-f_]+|\d[\d_]*\.\d+(?:e-?\d+)?|\d[\d_]*|\w+|::|->|=>|==|!=|<=|>=|<<|>>|&&|\|\||[-+*/]=|\.\.=?|.", re.S)
 
 Node = collections.namedtuple("Node", "kind start end kids text")
 Place = collections.namedtuple("Place", "crate file function start stop")
@@ -200,12 +200,13 @@ class Parser:
                 return value
 
     def listed(self, opening, closing):
-        """Expressions between commas."""
+        """Expressions between commas, or at the ends of a range."""
         kids = []
         self.take(opening)
         while self.peek() != closing:
-            kids.append(self.expression())
-            if self.peek() in (",", ";"):
+            if self.peek() != "..":
+                kids.append(self.expression())
+            if self.peek() in (",", ";", ".."):
                 self.take()
         self.take(closing)
         return kids
@@ -233,6 +234,8 @@ class Parser:
         self.take()
         if token[0].isdigit():
             return self.node("number", start, [], token)
+        if token[-1] in "\"'":
+            return self.node("text", start, [], token)
         if not re.match(r"\w", token):
             raise ValueError(f"unexpected {token} at {self.text.count(chr(10), 0, start) + 1}")
         while self.peek() == "::":
