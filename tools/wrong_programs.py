@@ -92,6 +92,7 @@ WRONG = {
         "cofactors.rt cofactor_answer": [("another refusal for the place", "Refusal::OutOfRange", "Refusal::NotWhole"), ("another place", "c.0, r.0)", "r.0, c.0)")],
     },
     "bulk": {
+        "lib.rt left_over": [("the quotient", "input % 2", "input / 2"), ("4 for 3", "input % 3", "input % 4")],
         "lib.rt check": [("order 5 let pass", "4 < order", "5 < order"), ("an output that is too long let pass", "output != input", "output < input")],
         "lib.rt move_vectors": [("a refusal that has written already", "            Moved::Done\n", "            Moved::Refused(Refusal::OutputLength)\n"), ("the lengths of points", "check(0,", "check(1,")],
         "lib.rt move_points": [("a refusal that has written already", "            Moved::Done\n", "            Moved::Refused(Refusal::OutputLength)\n"), ("the lengths of vectors", "check(1,", "check(0,")],
