@@ -12,7 +12,7 @@ use Rattle.vector.specs.Refusals.{Outcome, given, refused, refusedFor, after, d
 use Rattle.matrix.proofs.Ranges.{both}
 use Rattle.bulk.specs.declared.Moved.{Moved}
 use Rattle.bulk.specs.declared.Moved.the-variants.{Done, Refused}
-use Rattle.bulk.specs.Refusals.{movedOutcome, orderFrom, numberIs, fits, Fits}
+use Rattle.bulk.specs.Refusals.{movedOutcome, orderFrom, numberIs, Lengths, moveFits, Fits}
 
 -- ---- the order
 
@@ -63,30 +63,30 @@ pub length-is : (cause : Refusal) (length wanted : ℕ) → numberIs cause lengt
 unfolding numberIs
 length-is cause length wanted e = eqb-true length wanted (passed _ _ e)
 
-pub fitting : (short order matrix input output : ℕ) → fits short order matrix input output ≡ given tt → Fits short order matrix input output
-unfolding fits
-fitting short order matrix input output e =
+pub fitting : (short order : ℕ) (l : Lengths) → moveFits short order l ≡ given tt → Fits short order l
+unfolding moveFits
+fitting short order l e =
     let a = both _ _ e in
     let b = both _ _ (a .1) in
     let c = both _ _ (b .1) in
     let o = order-is (2 + short) order (a .0) in
     record { least = o .0; most = o .1; square = length-is _ _ _ (b .0); whole = length-is _ _ _ (c .0); same = length-is _ _ _ (c .1) }
 
-module _ (short order matrix input output : ℕ) (f : Fits short order matrix input output) (n : ℕ) (is : order ≡ n) where
+module _ (short order : ℕ) (l : Lengths) (f : Fits short order l) (n : ℕ) (is : order ≡ n) where
   -- at a known order the matrix has its square of numbers
-  pub squared : matrix ≡ n * n
+  pub squared : l .matrix ≡ n * n
   squared = f .square ∙ ap (λ k. k * k) is
 
   -- and the vectors or points are whole, the output as long
-  pub wholes : (input % (n - short) ≡ 0) × (output ≡ input)
-  wholes = (sym (ap (λ k. input % (k - short)) is) ∙ f .whole, f .same)
+  pub wholes : (l .input % (n - short) ≡ 0) × (l .output ≡ l .input)
+  wholes = (sym (ap (λ k. l .input % (k - short)) is) ∙ f .whole, f .same)
 
 -- an order that is none of the others is 4
-pub vectors-last : (order matrix input output : ℕ) → Fits 0 order matrix input output → (order ≡ 2 → ⊥) → (order ≡ 3 → ⊥) → order ≡ 4
-vectors-last order matrix input output f two three = omega (arith, f .least, f .most, two, three)
+pub vectors-last : (order : ℕ) (l : Lengths) → Fits 0 order l → (order ≡ 2 → ⊥) → (order ≡ 3 → ⊥) → order ≡ 4
+vectors-last order l f two three = omega (arith, f .least, f .most, two, three)
 
-pub points-last : (order matrix input output : ℕ) → Fits 1 order matrix input output → (order ≡ 3 → ⊥) → order ≡ 4
-points-last order matrix input output f three = omega (arith, f .least, f .most, three)
+pub points-last : (order : ℕ) (l : Lengths) → Fits 1 order l → (order ≡ 3 → ⊥) → order ≡ 4
+points-last order l f three = omega (arith, f .least, f .most, three)
 
 -- ---- the answer of an entry
 

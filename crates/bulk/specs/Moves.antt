@@ -4,7 +4,6 @@ use Prim.Native.Nat.{ℕ, _-_}
 use mathlib.Core.Bool.{cond}
 use mathlib.Core.List.{List}
 use lib.Dec.{eqb}
-use lib.ListN.{length}
 use lib.Ieee.{Float}
 use Rattle.vector.specs.Arithmetic.{float1}
 use Rattle.vector.specs.Refusals.{Outcome, given, after}
@@ -17,7 +16,7 @@ use Rattle.matrix.specs.declared.records.Matrix2.{Matrix2}
 use Rattle.matrix.specs.declared.records.Matrix3.{Matrix3}
 use Rattle.matrix.specs.declared.records.Matrix4.{Matrix4}
 use Rattle.bulk.specs.Groups.{groups, each}
-use Rattle.bulk.specs.Refusals.{fits}
+use Rattle.bulk.specs.Refusals.{lengthsOf, moveFits}
 
 -- ---- the matrix of a flat list of order² numbers: its groups are the columns
 
@@ -70,9 +69,9 @@ movePoint order m = cond (eqb order 3) (pointBy3 (flat3 m)) (pointBy4 (flat4 m))
 -- every vector, or the refusal
 abbrev pub moveVectors : ℕ → List Float → List Float → List Float → Outcome (List Float)
 moveVectors order m vectors output =
-    after (fits 0 order (length m) (length vectors) (length output)) (given (each order (moveVector order m) vectors))
+    after (moveFits 0 order (lengthsOf m vectors output)) (given (each order (moveVector order m) vectors))
 
 -- every point, or the refusal
 abbrev pub movePoints : ℕ → List Float → List Float → List Float → Outcome (List Float)
 movePoints order m points output =
-    after (fits 1 order (length m) (length points) (length output)) (given (each (order - 1) (movePoint order m) points))
+    after (moveFits 1 order (lengthsOf m points output)) (given (each (order - 1) (movePoint order m) points))

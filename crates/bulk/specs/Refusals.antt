@@ -3,7 +3,10 @@
 use Prim.Native.Nat.{ℕ, _+_, _*_, _-_, _%_, _≤_}
 use mathlib.Core.Path.{_≡_}
 use mathlib.Core.Bool.{cond, _&&_}
+use mathlib.Core.List.{List}
 use lib.Dec.{leb, eqb}
+use lib.ListN.{length}
+use lib.Ieee.{Float}
 use Rattle.vector.specs.declared.refusal.Refusal.{Refusal}
 use Rattle.vector.specs.declared.refusal.Refusal.the-variants.{InputLength, OutputLength, Order}
 use Rattle.vector.specs.Refusals.{Outcome, given, refusedFor, after}
@@ -20,22 +23,36 @@ unfoldable pub orderFrom : ℕ → ℕ → Outcome Unit
 orderFrom least order = cond (leb least order && leb order 4) (given tt) (refusedFor Order)
 
 -- refused for this cause unless the number, a length or what is left over, is the one wanted
-unfoldable pub numberIs : Refusal → ℕ → ℕ → Outcome Unit
-numberIs cause length wanted = cond (eqb length wanted) (given tt) (refusedFor cause)
+unfoldable pub numberIs : Refusal → (found wanted : ℕ) → Outcome Unit
+numberIs cause found wanted = cond (eqb found wanted) (given tt) (refusedFor cause)
+
+-- the lengths of what a bulk move is handed: the matrix, the vectors or points, the output
+pub record Lengths : Type 0 where
+  pub matrix : ℕ
+  pub input : ℕ
+  pub output : ℕ
+
+-- these lengths
+abbrev pub lengths : (matrix input output : ℕ) → Lengths
+lengths a b c = record { matrix = a; input = b; output = c }
+
+-- those of three lists
+abbrev pub lengthsOf : (matrix input output : List Float) → Lengths
+lengthsOf a b c = lengths (length a) (length b) (length c)
 
 -- the order, then the matrix of order² numbers, then whole vectors or points, then an output as long as these:
 -- `short` is 0 for vectors; it is 1 for points, which are one number shorter than the order and start at order 3
-unfoldable pub fits : ℕ → ℕ → ℕ → ℕ → ℕ → Outcome Unit
-fits short order matrix input output =
+unfoldable pub moveFits : (short order : ℕ) → Lengths → Outcome Unit
+moveFits short order l =
     after (orderFrom (2 + short) order)
-    (after (numberIs InputLength matrix (order * order))
-    (after (numberIs InputLength (input % (order - short)) 0)
-    (numberIs OutputLength output input)))
+    (after (numberIs InputLength (l .matrix) (order * order))
+    (after (numberIs InputLength (l .input % (order - short)) 0)
+    (numberIs OutputLength (l .output) (l .input))))
 
 -- what holds where none of these is refused
-pub record Fits (short order matrix input output : ℕ) : Type 0 where
+pub record Fits (short order : ℕ) (l : Lengths) : Type 0 where
   pub least : 2 + short ≤ order
   pub most : order ≤ 4
-  pub square : matrix ≡ order * order
-  pub whole : input % (order - short) ≡ 0
-  pub same : output ≡ input
+  pub square : l .matrix ≡ order * order
+  pub whole : l .input % (order - short) ≡ 0
+  pub same : l .output ≡ l .input

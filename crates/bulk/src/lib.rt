@@ -7,7 +7,7 @@ mod vectors;
 ghost use mathlib.Core.Path.{_≡_};
 ghost use Prim.Native.Nat.{_%_, _≤_};
 ghost use Rattle.vector.specs.Refusals.{done, leaves};
-ghost use Rattle.bulk.specs.Refusals.{movedOutcome, fits};
+ghost use Rattle.bulk.specs.Refusals.{movedOutcome, lengths, moveFits};
 ghost use Rattle.bulk.specs.Moves.{moveVectors, movePoints};
 use vector::Refusal;
 
@@ -32,7 +32,7 @@ fn left_over(input: usize, size: usize) -> usize
 // Refusals 5, 3 and 4, the first that applies; vectors are as long as the order, points one number shorter.
 fn check(short: usize, order: usize, matrix: usize, input: usize, output: usize) -> Moved
     requires { ⌜ short ≤ 1 ⌝ }
-    ensures { λ r. ⌜ movedOutcome r ≡ fits short order matrix input output ⌝ }
+    ensures { λ r. ⌜ movedOutcome r ≡ moveFits short order (lengths matrix input output) ⌝ }
 {
     if order < 2 + short {
         return Moved::Refused(Refusal::Order);

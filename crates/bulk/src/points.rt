@@ -3,7 +3,7 @@ ghost use mathlib.Core.Path.{_≡_};
 ghost use Prim.Native.Nat.{_-_, _%_};
 ghost use lib.ListN.{length};
 ghost use Rattle.bulk.specs.Groups.{each};
-ghost use Rattle.bulk.specs.Refusals.{Fits};
+ghost use Rattle.bulk.specs.Refusals.{lengthsOf, Fits};
 ghost use Rattle.bulk.specs.Moves.{movePoint, movePoint3, movePoint4, pointBy3, pointBy4};
 use crate::load;
 use matrix::Matrix3;
@@ -54,7 +54,7 @@ fn move_each4(m: Matrix4, points: &[f64], output: &mut [f64])
 
 // Points of an order whose lengths fit.
 pub(crate) fn move_each(order: usize, matrix: &[f64], points: &[f64], output: &mut [f64])
-    requires { ⌜ Fits 1 order (length (now matrix)) (length (now points)) (length (now output)) ⌝ }
+    requires { ⌜ Fits 1 order (lengthsOf (now matrix) (now points) (now output)) ⌝ }
     ensures { λ _. ⌜ now (output .exit) ≡ each (order - 1) (movePoint order (now (matrix .entry))) (now (points .entry)) ⌝ }
 {
     match order {

@@ -3,7 +3,7 @@ ghost use mathlib.Core.Path.{_≡_};
 ghost use Prim.Native.Nat.{_%_};
 ghost use lib.ListN.{length};
 ghost use Rattle.bulk.specs.Groups.{each};
-ghost use Rattle.bulk.specs.Refusals.{Fits};
+ghost use Rattle.bulk.specs.Refusals.{lengthsOf, Fits};
 ghost use Rattle.bulk.specs.Moves.{moveVector, vectorBy2, vectorBy3, vectorBy4};
 use crate::load;
 use matrix::Matrix2;
@@ -48,7 +48,7 @@ fn move_each4(m: Matrix4, vectors: &[f64], output: &mut [f64])
 
 // Vectors of an order whose lengths fit.
 pub(crate) fn move_each(order: usize, matrix: &[f64], vectors: &[f64], output: &mut [f64])
-    requires { ⌜ Fits 0 order (length (now matrix)) (length (now vectors)) (length (now output)) ⌝ }
+    requires { ⌜ Fits 0 order (lengthsOf (now matrix) (now vectors) (now output)) ⌝ }
     ensures { λ _. ⌜ now (output .exit) ≡ each order (moveVector order (now (matrix .entry))) (now (vectors .entry)) ⌝ }
 {
     match order {

@@ -3,29 +3,32 @@
 use mathlib.Core.Path.{_≡_, refl, sym, subst}
 use Prim.Native.Nat.{ℕ, _*_, _^_, _<_}
 use lib.Dec.{lit<, lit≤}
-use lib.IntN.{pos, negsuc, _*ℤ_}
+use lib.IntN.{ℤ, pos, negsuc, _*ℤ_}
 use lib.Ieee.{Float, binary64, neg, mul, div}
 use Rattle.vector.specs.Arithmetic.{float1}
 use Rattle.vector.specs.Vectors.{entry, entries4}
 use Rattle.matrix.specs.Records.{identity4}
 use Rattle.matrix.specs.Arithmetic.{mul4, mulVector4}
-use Rattle.matrix.specs.Inverse.{det3, sixTerms, detSubProc, det4, sign, cofactor, inverseColumn, inverse4}
+use Rattle.matrix.specs.Inverse.{det3, detSubProc, det4, sign, cofactor, inverseColumn, inverse4}
+use Rattle.vector.specs.declared.Vector4.{Vector4}
 use Rattle.matrix.specs.declared.records.Matrix4.{Matrix4}
-use Rattle.whole.specs.Matrix.{δ}
+use Rattle.whole.specs.Matrix.{Matrix, δ}
 use Rattle.whole.specs.Order.{parity, signed-sum}
-use Rattle.whole.proofs.Formula.{bound}
-use Rattle.whole.proofs.Inverse.{numerators}
+use Rattle.whole.proofs.Formula.{inWhole, bound}
+use Rattle.whole.proofs.Inverse.{numerators, moved}
+use Rattle.whole.proofs.Written.{entries}
 use Rattle.exact.specs.Value.{Exact}
 use Rattle.exact.proofs.Signed.{sign-of}
 use Rattle.exact.proofs.Literals.{exact-zero, exact-one}
 use Rattle.exact.proofs.Known.{Known, known-negation}
-use Rattle.exact.proofs.Reading.{inFloat}
-use Rattle.engine.specs.Whole.{floats4}
-use Rattle.engine.specs.Demand.{port4, WholeEntries, sumOf, AtOrder4}
+use Rattle.exact.proofs.Reading.{inFloat, places, weight}
+use Rattle.exact.proofs.Steps.{EachStep}
+use Rattle.engine.specs.Whole.{wholeNumber, numbers, floats4}
+use Rattle.engine.specs.Demand.{port4, WholeEntries, WholeVector, PowerOfTwo, sumOf, AtOrder4}
 use Rattle.engine.proofs.Places.{below-four}
 use Rattle.engine.proofs.Readings.{column-wise, beside}
 use Rattle.engine.proofs.Formulas.{sum4, dot4, combine4, minor4, times-reciprocal}
-use Rattle.engine.proofs.General.{Written, known-sum, demand}
+use Rattle.engine.proofs.General.{Written, sum-steps, there-steps, and-back-steps, back-steps, and-there-steps, demand}
 
 -- what holds at the sixteen places holds at all places below four
 at-places : (P : ℕ → ℕ → Type 0)
@@ -60,7 +63,7 @@ sign-known =
 
 -- the port's definitions are the formulas, and these pass their tests
 written : Written port4 1024 largest 64 sum4 combine4 dot4
-unfolding det4 detSubProc sixTerms
+unfolding det4 detSubProc
 written = record {
   some = lit< tt;
   limit = lit< tt;
@@ -89,18 +92,53 @@ written = record {
 
 -- demand 3 at order 4
 pub at-order4 : AtOrder4
-at-order4 = demand port4 largest 64 sum4 combine4 dot4 written
+at-order4 = demand port4 1024 largest 64 sum4 combine4 dot4 written
 
--- ---- document 01's figures, as the computed bounds
+-- ---- document 01's figures, "Why the limits hold"
 
--- the determinant's parts, added with no regard to sign: no partial sum passes 24 * 2 ^ 40
-pub sum-figure : (m : Matrix4) → WholeEntries port4 1024 m → Known (det4 m) (sumOf port4 m) 0 (24 * 2 ^ 40)
-sum-figure = known-sum port4 1024 largest 64 sum4 combine4 dot4 written
+-- "no partial sum passes 24·2^40": every step of the determinant (the formula sum4 computed in floats is det4) is a whole number within that.
+-- That no partial sum of the engine's own loop passes it is `partial-le` of Table.antt
+pub sum-figure : (m : Matrix4) → WholeEntries port4 1024 m
+    → EachStep (λ part. Known (inFloat binary64 (column-wise 4 (floats4 m)) part) (inWhole (entries 4 (numbers (floats4 m))) part) 0 (24 * 2 ^ 40)) sum4
+sum-figure = sum-steps port4 1024 largest 64 sum4 combine4 dot4 written (24 * 2 ^ 40) tt
 
--- there and back the same, for a vector entry of 64, times the power of two that is divided by: no scaled partial sum passes 24 * 2 ^ 48
-pub vector-figure : bound (beside 4 (λ i. largest) (λ i. bound (beside 4 (λ j. 1024) (λ j. 64)) dot4)) dot4 ≡ 24 * 2 ^ 48
-vector-figure = refl
+-- a matrix whose sum is plus or minus 2 ^ k, and a whole vector with entries up to 64
+module _ (m : Matrix4) (whole : WholeEntries port4 1024 m) (q : PowerOfTwo (sumOf port4 m)) (v : Vector4) (small : WholeVector port4 64 v) where
+  -- the inverse
+  abbrev x : Matrix4
+  x = inverse4 m (det4 m)
 
--- and that is below 2 ^ 53
+  -- the whole numbers of the matrix, the inverse's numerators over 2 ^ k, and the whole numbers of the vector
+  abbrev M : Matrix
+  M = numbers (floats4 m)
+
+  abbrev X : Matrix
+  X = numerators 4 (sign-of (signed-sum 4 M)) M
+
+  abbrev Q : ℕ → ℤ
+  Q i = wholeNumber (entry (entries4 v) i)
+
+  -- row r of a matrix times a vector, dot4 in floats: every step is a whole number within 24 * 2 ^ 48 over 2 ^ k, taken t times for the matrix and u times for the vector
+  abbrev Moves : (t u : ℕ) → Matrix4 → Matrix → Vector4 → (ℕ → ℤ) → ℕ → Type 0
+  Moves t u a A b C r =
+      EachStep (λ part. Known (inFloat binary64 (beside 4 (λ j. floats4 a j r) (entry (entries4 b))) part) (inWhole (beside 4 (λ j. A j r) C) part) (places (weight (beside 4 (λ i. t) (λ i. u)) part) (q .0)) (24 * 2 ^ 48)) dot4
+
+  -- "there and back, a vector entry of 64 keeps every scaled partial sum within 24·2^48": by the matrix, and then by the inverse
+  pub vector-figure : (r : ℕ) → r < 4 → Moves 0 0 m M v Q r × Moves 1 0 x X (mulVector4 m v) (moved 4 M Q) r
+  unfolding inverseColumn written
+  vector-figure r h = (
+    there-steps port4 1024 largest 64 sum4 combine4 dot4 written m whole q v small (24 * 2 ^ 48) tt r h,
+    and-back-steps port4 1024 largest 64 sum4 combine4 dot4 written m whole q v small (24 * 2 ^ 48) tt r h,
+  )
+
+  -- by the inverse, and then by the matrix
+  pub vector-figure-back : (r : ℕ) → r < 4 → Moves 1 0 x X v Q r × Moves 0 1 m M (mulVector4 x v) (moved 4 X Q) r
+  unfolding inverseColumn written
+  vector-figure-back r h = (
+    back-steps port4 1024 largest 64 sum4 combine4 dot4 written m whole q v small (24 * 2 ^ 48) tt r h,
+    and-there-steps port4 1024 largest 64 sum4 combine4 dot4 written m whole q v small (24 * 2 ^ 48) tt r h,
+  )
+
+-- and 24 * 2 ^ 48, the larger of the two, is below 2 ^ 53
 pub below-precision : 24 * 2 ^ 48 < 2 ^ 53
 below-precision = lit< tt

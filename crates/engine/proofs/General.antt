@@ -17,9 +17,9 @@ use Rattle.matrix.specs.Inverse.{nonzero}
 use Rattle.matrix.proofs.Singular as singular
 use Rattle.whole.specs.Matrix.{Matrix, δ}
 use Rattle.whole.specs.Order.{signed-sum}
-use Rattle.whole.proofs.Formula.{Formula, alike, bound}
+use Rattle.whole.proofs.Formula.{Formula, inWhole, alike, bound}
 use Rattle.whole.proofs.Inverse.{numerators, moved}
-use Rattle.whole.proofs.Written.{signed-formula, entry}
+use Rattle.whole.proofs.Written.{signed-formula, entry, entries}
 use Rattle.whole.proofs.Singular as whole-singular
 use Rattle.exact.specs.Value.{Exact, Whole, Equal}
 use Rattle.exact.proofs.Signed.{sign-of}
@@ -28,14 +28,15 @@ use Rattle.exact.proofs.Compare.{exact-equal-zero, same-value}
 use Rattle.exact.proofs.Literals.{exact-zero}
 use Rattle.exact.proofs.Integers.{exact-integer, exact-truncation}
 use Rattle.exact.proofs.Known.{Known, known-whole}
-use Rattle.exact.proofs.Reading.{inFloat}
+use Rattle.exact.proofs.Reading.{inFloat, places, weight}
+use Rattle.exact.proofs.Steps.{EachStep, steps-within}
 use Rattle.engine.specs.Whole.{wholeNumber, wholeEntries, numbers}
 use Rattle.engine.specs.Engine.{taken, oneBit}
 use Rattle.engine.specs.Demand.{Port, WholeEntries, sumOf, PowerOfTwo, SameVector, WholeVector, RefusedElsewhere, DeterminantIsSum, RefusedExactly, Undoes, InverseUndoes, UndoableExactly, ZeroExactly, Demand}
 use Rattle.engine.proofs.Taken.{whole-entries}
 use Rattle.engine.proofs.Outcomes.{taken-yes}
 use Rattle.engine.proofs.Bits.{one-bit}
-use Rattle.engine.proofs.Readings.{Holds, column-wise, beside, entry-test, over-sum}
+use Rattle.engine.proofs.Readings.{Holds, column-wise, beside, entry-test, over-sum, entry-steps, dot-steps}
 use Rattle.engine.proofs.Undoing as undoing
 use Rattle.engine.proofs.Undoing.{Passes}
 
@@ -97,6 +98,11 @@ module _ (p : Port) (B D E : ℕ) (d F G : Formula) (w : Written p B D E d F G) 
       subst (λ (x : Float). Known x (sumOf p m) 0 (bound (λ i. B) d)) (sym (w .determinant-is m))
       (over-sum binary64 n B (w .some) (p .entries m) (numbers (p .entries m)) (held m whole) d (w .sum-alike) (w .sum-exact))
 
+  -- and each step of it is a whole number within a limit that a test computes
+  pub sum-steps : (limit : ℕ) → T (steps-within (λ i. B) limit d) → (m : p .Matrix) → WholeEntries p B m
+      → EachStep (λ part. Known (inFloat binary64 (column-wise n (p .entries m)) part) (inWhole (entries n (numbers (p .entries m))) part) 0 limit) d
+  sum-steps limit test m whole = entry-steps binary64 n B (w .some) (p .entries m) (numbers (p .entries m)) (held m whole) limit d (w .sum-exact) test
+
   -- it compares equal to zero exactly if the sum is zero
   zero-sum : (m : p .Matrix) → WholeEntries p B m → Equal (p .determinant m) float0 ↔ (sumOf p m ≡ pos 0)
   zero-sum m whole = exact-equal-zero (known-sum m whole .exact) (exact-zero binary64)
@@ -129,12 +135,16 @@ module _ (p : Port) (B D E : ℕ) (d F G : Formula) (w : Written p B D E d F G) 
     abbrev M : Matrix
     M = numbers (p .entries m)
 
+    -- the inverse's numerators over that power of two
+    abbrev X : Matrix
+    X = numerators n (sign-of (signed-sum n M)) M
+
     -- the power of two is none too large
     fine : q .0 ≤ low binary64
     fine = power-low binary64 (q .0) (lt-of-le-of-lt (le-trans (le-of-eq (sym (q .1))) (known-sum m whole .within)) (w .sum-small))
 
     -- the inverse's entries are the adjugate over the sum
-    x-known : (c r : ℕ) → c < n → r < n → Known (p .entries x c r) (numerators n (sign-of (signed-sum n M)) M c r) (q .0) D
+    x-known : (c r : ℕ) → c < n → r < n → Known (p .entries x c r) (X c r) (q .0) D
     x-known = w .inverse-known m M (held m whole) (q .0) (q .1) (p .determinant m) (known-sum m whole)
 
     -- a whole vector
@@ -162,9 +172,9 @@ module _ (p : Port) (B D E : ℕ) (d F G : Formula) (w : Written p B D E d F G) 
           (v-known r h .exact)
 
       -- back
-      back-known : (i : ℕ) → i < n → Known (p .places (p .timesVector x v) i) (moved n (numerators n (sign-of (signed-sum n M)) M) Q i) (q .0) (n * (D * E))
+      back-known : (i : ℕ) → i < n → Known (p .places (p .timesVector x v) i) (moved n X Q i) (q .0) (n * (D * E))
       back-known i h =
-          subst (λ (y : Float). Known y (moved n (numerators n (sign-of (signed-sum n M)) M) Q i) (q .0) (n * (D * E))) (sym (w .vector-is x v i h))
+          subst (λ (y : Float). Known y (moved n X Q i) (q .0) (n * (D * E))) (sym (w .vector-is x v i h))
           (undoing.back-known binary64 n B D E F G (w .passes) M (q .0) fine (q .1) (p .entries m) (p .entries x) (held m whole) x-known (p .places v) Q v-known i h)
 
       -- and there
@@ -174,6 +184,30 @@ module _ (p : Port) (B D E : ℕ) (d F G : Formula) (w : Written p B D E d F G) 
           (subst (λ (y : Float). Exact y (Q r) 0) (sym (w .vector-is m (p .timesVector x v) r h))
           (undoing.and-there binary64 n B D E F G (w .passes) M (q .0) fine (q .1) (p .entries m) (p .entries x) (held m whole) x-known (p .places v) Q v-known (p .places (p .timesVector x v)) back-known r h))
           (v-known r h .exact)
+
+      -- each step of a move, times the power of two that it is over, is a whole number within a limit that a test computes: there,
+      pub there-steps : (limit : ℕ) → T (steps-within (beside n (λ i. B) (λ i. E)) limit G) → (r : ℕ) → r < n
+          → EachStep (λ part. Known (inFloat binary64 (beside n (λ j. p .entries m j r) (p .places v)) part) (inWhole (beside n (λ j. M j r) Q) part) (places (weight (beside n (λ i. 0) (λ i. 0)) part) (q .0)) limit) G
+      there-steps limit test r h =
+          dot-steps binary64 n G 0 0 B E (w .passes .there) (q .0) fine (λ j. p .entries m j r) (p .places v) (λ j. M j r) Q (λ j b. held m whole j r b h) v-known limit test
+
+      -- and back;
+      pub and-back-steps : (limit : ℕ) → T (steps-within (beside n (λ i. D) (λ i. n * (B * E))) limit G) → (r : ℕ) → r < n
+          → EachStep (λ part. Known (inFloat binary64 (beside n (λ j. p .entries x j r) (p .places (p .timesVector m v))) part) (inWhole (beside n (λ j. X j r) (moved n M Q)) part) (places (weight (beside n (λ i. 1) (λ i. 0)) part) (q .0)) limit) G
+      and-back-steps limit test r h =
+          dot-steps binary64 n G 1 0 D (n * (B * E)) (w .passes .and-back) (q .0) fine (λ j. p .entries x j r) (p .places (p .timesVector m v)) (λ j. X j r) (moved n M Q) (λ j b. x-known j r b h) there-known limit test
+
+      -- back,
+      pub back-steps : (limit : ℕ) → T (steps-within (beside n (λ i. D) (λ i. E)) limit G) → (r : ℕ) → r < n
+          → EachStep (λ part. Known (inFloat binary64 (beside n (λ j. p .entries x j r) (p .places v)) part) (inWhole (beside n (λ j. X j r) Q) part) (places (weight (beside n (λ i. 1) (λ i. 0)) part) (q .0)) limit) G
+      back-steps limit test r h =
+          dot-steps binary64 n G 1 0 D E (w .passes .back) (q .0) fine (λ j. p .entries x j r) (p .places v) (λ j. X j r) Q (λ j b. x-known j r b h) v-known limit test
+
+      -- and there
+      pub and-there-steps : (limit : ℕ) → T (steps-within (beside n (λ i. B) (λ i. n * (D * E))) limit G) → (r : ℕ) → r < n
+          → EachStep (λ part. Known (inFloat binary64 (beside n (λ j. p .entries m j r) (p .places (p .timesVector x v))) part) (inWhole (beside n (λ j. M j r) (moved n X Q)) part) (places (weight (beside n (λ i. 0) (λ i. 1)) part) (q .0)) limit) G
+      and-there-steps limit test r h =
+          dot-steps binary64 n G 0 1 B (n * (D * E)) (w .passes .and-there) (q .0) fine (λ j. p .entries m j r) (p .places (p .timesVector x v)) (λ j. M j r) (moved n X Q) (λ j b. held m whole j r b h) back-known limit test
 
     -- it undoes the matrix
     undoes : Undoes p E m x
@@ -200,10 +234,10 @@ by-check true v = (λ e. let none : _≡_ {A = ℕ} 0 1 = cc in absurd (omega ar
 by-check false v = (λ e t. t, λ h. refl)
 
 -- the engine refuses with 6 exactly where an entry is not whole
-pub refused-elsewhere : (p : Port) → RefusedElsewhere p
+pub refused-elsewhere : (p : Port) (limit : ℕ) → RefusedElsewhere p limit
 unfolding taken
-refused-elsewhere p m =
-    let test = wholeEntries 1024 (p .order) (p .entries m) in
+refused-elsewhere p limit m =
+    let test = wholeEntries limit (p .order) (p .entries m) in
     (by-check test (sumOf p m), by-check test (oneBit (natAbs (sumOf p m))))
 
 -- a yes after the check
@@ -213,27 +247,27 @@ by-bit true false = (λ e. let no : false ≡ true = cc in absurd (subst T (sym 
 by-bit false t = (λ e. let none : _≡_ {A = ℕ} 0 1 = cc in absurd (omega arith), λ q. absurd (q .0))
 
 -- undoable says yes exactly at whole entries whose sum is plus or minus a power of two
-pub undoable-exactly : (p : Port) → UndoableExactly p
+pub undoable-exactly : (p : Port) (limit : ℕ) → UndoableExactly p limit
 unfolding taken
-undoable-exactly p m =
+undoable-exactly p limit m =
     let bit = one-bit (natAbs (sumOf p m)) in
-    let yes = by-bit (wholeEntries 1024 (p .order) (p .entries m)) (oneBit (natAbs (sumOf p m))) in
+    let yes = by-bit (wholeEntries limit (p .order) (p .entries m)) (oneBit (natAbs (sumOf p m))) in
     (λ e. (yes .0 e .0, bit .0 (yes .0 e .1)), λ q. yes .1 (q .0, bit .1 (q .1)))
 
--- ---- all of it, at the engine's own limit
-pub demand : (p : Port) (D E : ℕ) (d F G : Formula) → Written p 1024 D E d F G → Demand p 1024 E
-demand p D E d F G w = record {
-  meaning = λ m. whole-entries 1024 (p .order) (p .entries m) (w .limit);
-  own-numbers = λ m whole c r h l. held p 1024 D E d F G w m whole c r h l .exact;
-  refused-elsewhere = refused-elsewhere p;
-  determinant-is-sum = determinant-is-sum p 1024 D E d F G w;
-  refused-exactly = refused-exactly p 1024 D E d F G w;
-  inverse-undoes = inverse-undoes p 1024 D E d F G w;
-  sum-agrees = λ m whole. let known = known-sum p 1024 D E d F G w m whole in (
+-- ---- all of it
+pub demand : (p : Port) (B D E : ℕ) (d F G : Formula) → Written p B D E d F G → Demand p B E
+demand p B D E d F G w = record {
+  meaning = λ m. whole-entries B (p .order) (p .entries m) (w .limit);
+  own-numbers = λ m whole c r h l. held p B D E d F G w m whole c r h l .exact;
+  refused-elsewhere = refused-elsewhere p B;
+  determinant-is-sum = determinant-is-sum p B D E d F G w;
+  refused-exactly = refused-exactly p B D E d F G w;
+  inverse-undoes = inverse-undoes p B D E d F G w;
+  sum-agrees = λ m whole. let known = known-sum p B D E d F G w m whole in (
     sumOf p m,
-    ap (λ (o : Outcome Unit). after o (given (sumOf p m))) (taken-yes (p .order) (p .entries m) (passes-true (wholeEntries 1024 (p .order) (p .entries m)) whole)),
+    ap (λ (o : Outcome Unit). after o (given (sumOf p m))) (taken-yes B (p .order) (p .entries m) (passes-true (wholeEntries B (p .order) (p .entries m)) whole)),
     same-value (exact-integer binary64 (sumOf p m) (lt-of-le-of-lt (known .within) (w .sum-small))) (known .exact),
   );
-  undoable-exactly = undoable-exactly p;
-  zero-exactly = zero-exactly p 1024 D E d F G w;
+  undoable-exactly = undoable-exactly p B;
+  zero-exactly = zero-exactly p B D E d F G w;
 }

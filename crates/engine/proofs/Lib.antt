@@ -16,4 +16,4 @@ pub mod General
 pub mod Two
 pub mod Three
 pub mod Four
-pub mod Wrong
+pub mod Unique

@@ -11,7 +11,7 @@ use lib.ListN.{getD, List·getD-map}
 use lib.IntN.{ℤ, pos, natAbs, _*ℤ_}
 use lib.Ieee.{Float, nan, eq, ofBits, ofInt, toSigned}
 use Rattle.vector.specs.Arithmetic.{float0, float1}
-use Rattle.vector.specs.Refusals.{Outcome, given, refused, refusedFor, after}
+use Rattle.vector.specs.Refusals.{Outcome, given, refused, refusedFor, after, over}
 use Rattle.vector.specs.declared.refusal.Refusal.the-variants.{NotWhole}
 use Rattle.matrix.specs.Records.{array4, embed24, embed34}
 use Rattle.vector.proofs.Checks.{passes}
@@ -36,14 +36,14 @@ use Rattle.engine.proofs.Taken.{taken-reached}
 -- ---- the check
 
 -- where every entry is taken the check passes
-pub taken-yes : (n : ℕ) (e : Floats) → wholeEntries 1024 n e ≡ true → taken n e ≡ given tt
+pub taken-yes : (limit n : ℕ) (e : Floats) → wholeEntries limit n e ≡ true → taken limit n e ≡ given tt
 unfolding taken
-taken-yes n e h = rw h
+taken-yes limit n e h = rw h
 
 -- and where one is not it is refused
-pub taken-no : (n : ℕ) (e : Floats) → wholeEntries 1024 n e ≡ false → taken n e ≡ refusedFor NotWhole
+pub taken-no : (limit n : ℕ) (e : Floats) → wholeEntries limit n e ≡ false → taken limit n e ≡ refusedFor NotWhole
 unfolding taken
-taken-no n e h = rw h
+taken-no limit n e h = rw h
 
 -- a value after a check that passes
 pub given-after : {A : Type 0} (check : Outcome Unit) {v w : A} → check ≡ given tt → v ≡ w → given v ≡ after check (given w)
@@ -85,11 +85,11 @@ and-true true = refl
 and-true false = refl
 
 -- the entries besides the matrix are taken
-pub corner2 : (m : Matrix2) → taken 4 (floats4 (embed24 m)) ≡ taken 2 (floats2 m)
+pub corner2 : (m : Matrix2) → taken 1024 4 (floats4 (embed24 m)) ≡ taken 1024 2 (floats2 m)
 unfolding taken wholeEntries
 corner2 m = simp (whole-zero, whole-one, and-true)
 
-pub corner3 : (m : Matrix3) → taken 4 (floats4 (embed34 m)) ≡ taken 3 (floats3 m)
+pub corner3 : (m : Matrix3) → taken 1024 4 (floats4 (embed34 m)) ≡ taken 1024 3 (floats3 m)
 unfolding taken wholeEntries
 corner3 m = simp (whole-zero, whole-one, and-true)
 
@@ -123,15 +123,15 @@ after-same p q v w h e = rw (h, e)
 -- ---- the sum tested
 
 -- a number that was given
-pub sum-given : (a : NumberAnswer) (z : ℤ) (b : Bool) → a ≡ Given z → b ≡ oneBit (natAbs z) → given b ≡ undoableSum (numberOutcome a)
-sum-given a z b is tested = ap given tested ∙ ap (λ (a : NumberAnswer). undoableSum (numberOutcome a)) (sym is)
+pub sum-given : (a : NumberAnswer) (z : ℤ) (b : Bool) → a ≡ Given z → b ≡ oneBit (natAbs z) → given b ≡ over undoableSum (numberOutcome a)
+sum-given a z b is tested = ap given tested ∙ ap (λ (a : NumberAnswer). over undoableSum (numberOutcome a)) (sym is)
 
 -- a cause that was given
-pub sum-refused : (a : NumberAnswer) (cause : Refusal) → a ≡ Refused cause → refusedFor cause ≡ undoableSum (numberOutcome a)
-sum-refused a cause is = ap (λ (a : NumberAnswer). undoableSum (numberOutcome a)) (sym is)
+pub sum-refused : (a : NumberAnswer) (cause : Refusal) → a ≡ Refused cause → refusedFor cause ≡ over undoableSum (numberOutcome a)
+sum-refused a cause is = ap (λ (a : NumberAnswer). over undoableSum (numberOutcome a)) (sym is)
 
 -- the test goes after the check
-pub sum-tested : (check : Outcome Unit) (z : ℤ) → undoableSum (after check (given z)) ≡ after check (given (oneBit (natAbs z)))
+pub sum-tested : (check : Outcome Unit) (z : ℤ) → over undoableSum (after check (given z)) ≡ after check (given (undoableSum z))
 sum-tested (given u) z = refl
 sum-tested (refused n) z = refl
 
@@ -167,15 +167,15 @@ corner-cofactor n e d c r some same h l =
 
 -- the cofactor among the first n columns and rows of a matrix of order 4
 abbrev placed : ℕ → Column → Row → Matrix4 → Outcome ℤ
-placed n c r w = after (columnBelow n c) (after (rowBelow n r) (after (taken 4 (floats4 w)) (given (cofactorOf n (numbers (floats4 w)) (c .0) (r .0)))))
+placed n c r w = after (columnBelow n c) (after (rowBelow n r) (after (taken 1024 4 (floats4 w)) (given (cofactorOf n (numbers (floats4 w)) (c .0) (r .0)))))
 
 -- in the corner it is the matrix's
-pub corner-cofactor2 : (m : Matrix2) (w : Matrix4) (c : Column) (r : Row) (o : Outcome ℤ) → w ≡ embed24 m → o ≡ placed 2 c r w → o ≡ cofactor 2 (floats2 m) c r
+pub corner-cofactor2 : (m : Matrix2) (w : Matrix4) (c : Column) (r : Row) (o : Outcome ℤ) → w ≡ embed24 m → o ≡ placed 2 c r w → o ≡ cofactor 1024 2 (floats2 m) c r
 corner-cofactor2 m w c r o is answered =
     answered ∙ ap (placed 2 c r) is
-    ∙ placed-same 2 c r (taken 4 (floats4 (embed24 m))) (taken 2 (floats2 m)) _ _ (corner2 m) (λ h l. corner-cofactor 2 (floats4 (embed24 m)) (floats2 m) (c .0) (r .0) (lit< tt) (entries2 m) h l)
+    ∙ placed-same 2 c r (taken 1024 4 (floats4 (embed24 m))) (taken 1024 2 (floats2 m)) _ _ (corner2 m) (λ h l. corner-cofactor 2 (floats4 (embed24 m)) (floats2 m) (c .0) (r .0) (lit< tt) (entries2 m) h l)
 
-pub corner-cofactor3 : (m : Matrix3) (w : Matrix4) (c : Column) (r : Row) (o : Outcome ℤ) → w ≡ embed34 m → o ≡ placed 3 c r w → o ≡ cofactor 3 (floats3 m) c r
+pub corner-cofactor3 : (m : Matrix3) (w : Matrix4) (c : Column) (r : Row) (o : Outcome ℤ) → w ≡ embed34 m → o ≡ placed 3 c r w → o ≡ cofactor 1024 3 (floats3 m) c r
 corner-cofactor3 m w c r o is answered =
     answered ∙ ap (placed 3 c r) is
-    ∙ placed-same 3 c r (taken 4 (floats4 (embed34 m))) (taken 3 (floats3 m)) _ _ (corner3 m) (λ h l. corner-cofactor 3 (floats4 (embed34 m)) (floats3 m) (c .0) (r .0) (lit< tt) (entries3 m) h l)
+    ∙ placed-same 3 c r (taken 1024 4 (floats4 (embed34 m))) (taken 1024 3 (floats3 m)) _ _ (corner3 m) (λ h l. corner-cofactor 3 (floats4 (embed34 m)) (floats3 m) (c .0) (r .0) (lit< tt) (entries3 m) h l)

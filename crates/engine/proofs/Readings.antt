@@ -18,6 +18,7 @@ use Rattle.whole.proofs.Sum.{sum-ext}
 use Rattle.whole.proofs.Written.{sum-formula, sum-formula-is, signed-formula, entry, entries, written-entries}
 use Rattle.exact.proofs.Known.{Known}
 use Rattle.exact.proofs.Reading.{inFloat, places, weight, stays-exact, exact-formula, whole-formula}
+use Rattle.exact.proofs.Steps.{EachStep, steps-within, exact-steps, whole-steps}
 use Rattle.engine.specs.Whole.{Floats}
 
 -- ---- over the entries of a matrix
@@ -43,6 +44,10 @@ module _ (f : Format) (n B : ℕ) (some : 0 < n) (e : Floats) (M : Matrix) (hold
   -- a formula over the entries is exact where its test passes
   pub over-entries : (d : Formula) → T (entry-test f n B d) → Known (inFloat f (column-wise n e) d) (inWhole (entries n M) d) 0 (bound (λ i. B) d)
   over-entries d test = whole-formula f (n * n) (λ i. B) (column-wise n e) (entries n M) variables d test
+
+  -- and so is each of its steps, within a limit that a test computes
+  pub entry-steps : (limit : ℕ) (d : Formula) → T (entry-test f n B d) → T (steps-within (λ i. B) limit d) → EachStep (λ part. Known (inFloat f (column-wise n e) part) (inWhole (entries n M) part) 0 limit) d
+  entry-steps = whole-steps f (n * n) (λ i. B) (column-wise n e) (entries n M) variables
 
   -- one that multiplies out as the signed sum does is the signed sum
   pub over-sum : (d : Formula) → T (alike d (signed-formula n (entry n))) → T (entry-test f n B d) → Known (inFloat f (column-wise n e) d) (signed-sum n M) 0 (bound (λ i. B) d)
@@ -127,3 +132,9 @@ module _ (f : Format) (n : ℕ) (d : Formula) (w v a b : ℕ) (test : T (dot-tes
       (subst (λ (t : ℕ). Known (inFloat f (beside n row column) d) (inWhole (beside n R C) d) (places t k) (n * (a * b))) weight-part
       (subst (λ (t : ℕ). Known (inFloat f (beside n row column) d) (inWhole (beside n R C) d) (places (weight (beside n (λ i. w) (λ i. v)) d) k) t) bound-part
       (exact-formula f (n + n) (low f) (beside n (λ i. w) (λ i. v)) (beside n (λ i. a) (λ i. b)) k fine (beside n row column) (beside n R C) each d (and-l Rest Sizes rest-part))))
+
+  -- and so is each of its steps, within a limit that a test computes
+  pub dot-steps : (limit : ℕ) → T (steps-within (beside n (λ i. a) (λ i. b)) limit d)
+      → EachStep (λ part. Known (inFloat f (beside n row column) part) (inWhole (beside n R C) part) (places (weight (beside n (λ i. w) (λ i. v)) part) k) limit) d
+  dot-steps limit =
+      exact-steps f (n + n) (low f) (beside n (λ i. w) (λ i. v)) (beside n (λ i. a) (λ i. b)) k fine (beside n row column) (beside n R C) each limit d (and-l Rest Sizes rest-part)

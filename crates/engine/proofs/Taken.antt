@@ -1,7 +1,7 @@
 -- The test of an entry is right: it passes exactly at the whole numbers of magnitude at most the limit, -0.0 among them; and the code's comparisons decide it.
 -- Assumes nothing.
 use mathlib.Core.Path.{_≡_, refl, sym, subst}
-use mathlib.Core.Bool.{Bool, true, false, _&&_, _||_}
+use mathlib.Core.Bool.{Bool, true, false, cond, _&&_, _||_}
 use mathlib.Core.Logic.{_↔_}
 use mathlib.Core.List.{[], _∷_, map}
 use Prim.Native.Nat.{ℕ, _+_, _-_, _*_, _/_, _^_, _≤_, _<_, min}
@@ -17,7 +17,10 @@ use Rattle.whole.proofs.Ring.{mul-one, abs-neg}
 use Rattle.exact.specs.Value.{Exact, exactly, Whole}
 use Rattle.exact.proofs.Integers.{whole-test}
 use Rattle.exact.proofs.Order.{exact-at-most}
-use Rattle.engine.specs.Whole.{wholeNumber, isWhole, Floats, wholeEntries}
+use Rattle.vector.specs.Refusals.{Outcome, given, refused, refusedFor}
+use Rattle.vector.specs.declared.refusal.Refusal.the-variants.{NotWhole}
+use Rattle.engine.specs.Whole.{wholeNumber, isWhole, Floats, wholeEntries, AllWhole}
+use Rattle.engine.specs.Engine.{taken, TakenExactly}
 use Rattle.engine.proofs.Places.{all-places}
 
 -- ---- what the test says
@@ -34,13 +37,23 @@ whole-entry limit x small =
     )
 
 -- and so at all entries below an order
-pub whole-entries : (limit n : ℕ) (e : Floats) → limit < 2 ^ 53 → T (wholeEntries limit n e) ↔ ((c r : ℕ) → c < n → r < n → Whole limit (e c r))
+pub whole-entries : (limit n : ℕ) (e : Floats) → limit < 2 ^ 53 → T (wholeEntries limit n e) ↔ AllWhole limit n e
 unfolding wholeEntries
 whole-entries limit n e small =
     let places = all-places n (λ c r. isWhole limit (e c r)) in (
       λ t c r h l. whole-entry limit (e c r) small .0 (places .0 t c r h l),
       λ each. places .1 (λ c r h l. whole-entry limit (e c r) small .1 (each c r h l)),
     )
+
+-- a test that refuses with 6 where it does not pass
+six-elsewhere : (b : Bool) (S : Type 0) → T b ↔ S → let o : Outcome Unit = cond b (given tt) (refusedFor NotWhole) in ((o ≡ given tt) ↔ S) × ((o ≡ refused 6) ↔ ¬ S)
+six-elsewhere true S is = ((λ e. is .0 tt, λ s. refl), (λ e. let none : _≡_ {A = ℕ} 0 1 = cc in absurd (omega arith), λ none. absurd (none (is .0 tt))))
+six-elsewhere false S is = ((λ e. let none : _≡_ {A = ℕ} 0 1 = cc in absurd (omega arith), λ s. absurd (is .1 s)), (λ e s. is .1 s, λ none. refl))
+
+-- so refusal 6 has its plain meaning
+pub taken-exactly : (limit : ℕ) → limit < 2 ^ 53 → TakenExactly limit
+unfolding taken
+taken-exactly limit small n e = six-elsewhere (wholeEntries limit n e) (AllWhole limit n e) (whole-entries limit n e small)
 
 -- ---- what the code compares
 

@@ -69,4 +69,4 @@ written = record {
 
 -- demand 3 at order 3
 pub at-order3 : AtOrder3
-at-order3 = demand port3 largest 32768 sum3 dot3 dot3 written
+at-order3 = demand port3 1024 largest 32768 sum3 dot3 dot3 written

@@ -64,4 +64,4 @@ written = record {
 
 -- demand 3 at order 2
 pub at-order2 : AtOrder2
-at-order2 = demand port2 1024 32768 sum2 dot2 dot2 written
+at-order2 = demand port2 1024 1024 32768 sum2 dot2 dot2 written

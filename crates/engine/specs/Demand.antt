@@ -22,7 +22,7 @@ use Rattle.matrix.specs.declared.records.Matrix4.{Matrix4}
 use Rattle.whole.specs.Order.{signed-sum}
 use Rattle.whole.specs.Claim.{ZeroExactlyIf}
 use Rattle.exact.specs.Value.{Exact, Whole, Equal}
-use Rattle.engine.specs.Whole.{Floats, wholeEntries, numbers, floats2, floats3, floats4}
+use Rattle.engine.specs.Whole.{Floats, wholeEntries, AllWhole, numbers, floats2, floats3, floats4}
 use Rattle.engine.specs.Engine.{signedSum, undoable}
 
 -- ---- what is handed in: the definitions of one order
@@ -115,15 +115,15 @@ WholeVector p limit v = (i : ℕ) → i < p .order → Whole limit (p .places v 
 
 -- 0. the words' meaning: each entry's exact value is a whole number of magnitude at most the limit, -0.0 being 0
 abbrev pub Meaning : Port → ℕ → Type 0
-Meaning p limit = (m : p .Matrix) → WholeEntries p limit m ↔ ((c r : ℕ) → c < p .order → r < p .order → Whole limit (p .entries m c r))
+Meaning p limit = (m : p .Matrix) → WholeEntries p limit m ↔ AllWhole limit (p .order) (p .entries m)
 
 -- the numbers that the sum is taken of are the entries' own exact values
 abbrev pub OwnNumbers : Port → ℕ → Type 0
 OwnNumbers p limit = (m : p .Matrix) → WholeEntries p limit m → (c r : ℕ) → c < p .order → r < p .order → Exact (p .entries m c r) (numbers (p .entries m) c r) 0
 
--- the engine refuses with 6, giving no number and no yes or no, exactly where some entry is not a whole number within its limit
-abbrev pub RefusedElsewhere : Port → Type 0
-RefusedElsewhere p = (m : p .Matrix) → ((signedSum (p .order) (p .entries m) ≡ refused 6) ↔ ¬ WholeEntries p 1024 m) × ((undoable (p .order) (p .entries m) ≡ refused 6) ↔ ¬ WholeEntries p 1024 m)
+-- the engine refuses with 6, giving no number and no yes or no, exactly where some entry is not a whole number within the limit
+abbrev pub RefusedElsewhere : Port → ℕ → Type 0
+RefusedElsewhere p limit = (m : p .Matrix) → ((signedSum limit (p .order) (p .entries m) ≡ refused 6) ↔ ¬ WholeEntries p limit m) × ((undoable limit (p .order) (p .entries m) ≡ refused 6) ↔ ¬ WholeEntries p limit m)
 
 -- 1. "The determinant numerically equals the exact signed sum": it is finite and its exact value is that number
 abbrev pub DeterminantIsSum : Port → ℕ → Type 0
@@ -143,12 +143,12 @@ pub record Undoes (p : Port) (vectors : ℕ) (m i : p .Matrix) : Type 0 where
 abbrev pub InverseUndoes : Port → ℕ → ℕ → Type 0
 InverseUndoes p limit vectors = (m : p .Matrix) → WholeEntries p limit m → PowerOfTwo (sumOf p m) → (i : p .Matrix) × (p .invert m ≡ given i) × Undoes p vectors m i
 
--- 4. at the engine's own limit: its sum agrees with the determinant numerically, and `undoable` says yes exactly where 3 applies
-abbrev pub SumAgrees : Port → Type 0
-SumAgrees p = (m : p .Matrix) → WholeEntries p 1024 m → (s : ℤ) × (signedSum (p .order) (p .entries m) ≡ given s) × Equal (ofInt binary64 s) (p .determinant m)
+-- 4. the engine's sum agrees with the determinant numerically, and `undoable` says yes exactly where 3 applies
+abbrev pub SumAgrees : Port → ℕ → Type 0
+SumAgrees p limit = (m : p .Matrix) → WholeEntries p limit m → (s : ℤ) × (signedSum limit (p .order) (p .entries m) ≡ given s) × Equal (ofInt binary64 s) (p .determinant m)
 
-abbrev pub UndoableExactly : Port → Type 0
-UndoableExactly p = (m : p .Matrix) → (undoable (p .order) (p .entries m) ≡ given true) ↔ (WholeEntries p 1024 m × PowerOfTwo (sumOf p m))
+abbrev pub UndoableExactly : Port → ℕ → Type 0
+UndoableExactly p limit = (m : p .Matrix) → (undoable limit (p .order) (p .entries m) ≡ given true) ↔ (WholeEntries p limit m × PowerOfTwo (sumOf p m))
 
 -- 5. the sum is zero exactly if no whole A and no nonzero k have M·A = k·identity, M being the matrix's own whole entries
 abbrev pub ZeroExactly : Port → ℕ → Type 0
@@ -158,12 +158,12 @@ ZeroExactly p limit = (m : p .Matrix) → WholeEntries p limit m → ZeroExactly
 pub record Demand (p : Port) (limit vectors : ℕ) : Type 0 where
   pub meaning : Meaning p limit
   pub own-numbers : OwnNumbers p limit
-  pub refused-elsewhere : RefusedElsewhere p
+  pub refused-elsewhere : RefusedElsewhere p limit
   pub determinant-is-sum : DeterminantIsSum p limit
   pub refused-exactly : RefusedExactly p limit
   pub inverse-undoes : InverseUndoes p limit vectors
-  pub sum-agrees : SumAgrees p
-  pub undoable-exactly : UndoableExactly p
+  pub sum-agrees : SumAgrees p limit
+  pub undoable-exactly : UndoableExactly p limit
   pub zero-exactly : ZeroExactly p limit
 
 -- "whole entries of magnitude at most 1024"; vectors with "entries up to 32768 for orders 2 and 3, up to 64 for order 4"

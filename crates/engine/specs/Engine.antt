@@ -14,7 +14,7 @@ use Rattle.matrix.specs.declared.places.Column.{Column}
 use Rattle.matrix.specs.declared.places.Row.{Row}
 use Rattle.whole.specs.Matrix.{Matrix, times, IsMultiple}
 use Rattle.whole.specs.Order.{parity, skip, signed-sum}
-use Rattle.engine.specs.Whole.{Floats, wholeEntries, numbers}
+use Rattle.engine.specs.Whole.{Floats, wholeEntries, AllWhole, numbers}
 use Rattle.engine.specs.declared.answers.NumberAnswer.{NumberAnswer}
 use Rattle.engine.specs.declared.answers.NumberAnswer.the-variants as number
 use Rattle.engine.specs.declared.answers.UndoableAnswer.{UndoableAnswer}
@@ -30,34 +30,39 @@ abbrev pub undoableOutcome : UndoableAnswer → Outcome Bool
 undoableOutcome (verdict.Given b) = given b
 undoableOutcome (verdict.Refused cause) = refusedFor cause
 
--- refusal 6 unless each entry below the order is a whole number of magnitude at most 1024
-unfoldable pub taken : ℕ → Floats → Outcome Unit
-taken n e = cond (wholeEntries 1024 n e) (given tt) (refusedFor NotWhole)
+-- ---- what is answered, for entries up to a limit, which the code has at 1024
+
+-- refusal 6 unless each entry below the order n is a whole number of magnitude at most the limit, by the test of Whole.antt
+unfoldable pub taken : (limit n : ℕ) → Floats → Outcome Unit
+taken limit n e = cond (wholeEntries limit n e) (given tt) (refusedFor NotWhole)
+
+-- refusal 6 in plain words: nothing is refused exactly where the exact value of each entry is a whole number of magnitude at most the limit (-0.0 is 0), and 6 is the number elsewhere; shown in proofs/Taken.antt for every limit below 2 ^ 53
+abbrev pub TakenExactly : ℕ → Type 0
+TakenExactly limit = (n : ℕ) (e : Floats) → ((taken limit n e ≡ given tt) ↔ AllWhole limit n e) × ((taken limit n e ≡ refused 6) ↔ ¬ AllWhole limit n e)
 
 -- the signed sum over all column orders: 2, 6 or 24 terms
-abbrev pub signedSum : ℕ → Floats → Outcome ℤ
-signedSum n e = after (taken n e) (given (signed-sum n (numbers e)))
+abbrev pub signedSum : (limit n : ℕ) → Floats → Outcome ℤ
+signedSum limit n e = after (taken limit n e) (given (signed-sum n (numbers e)))
 
 -- exactly one bit of the number is set
 unfoldable pub oneBit : ℕ → Bool
 oneBit magnitude = eqb (ones magnitude) 1
 
--- an outcome's number, tested
-abbrev pub undoableSum : Outcome ℤ → Outcome Bool
-undoableSum (given sum) = given (oneBit (natAbs sum))
-undoableSum (refused n) = refused n
+-- whether a sum is undoable: its magnitude has exactly one bit set
+abbrev pub undoableSum : ℤ → Bool
+undoableSum sum = oneBit (natAbs sum)
 
--- whether the sum is undoable: its magnitude has exactly one bit set
-abbrev pub undoable : ℕ → Floats → Outcome Bool
-undoable n e = after (taken n e) (given (oneBit (natAbs (signed-sum n (numbers e)))))
+-- whether the signed sum is undoable
+abbrev pub undoable : (limit n : ℕ) → Floats → Outcome Bool
+undoable limit n e = after (taken limit n e) (given (undoableSum (signed-sum n (numbers e))))
 
 -- the cofactor of column c, row r at the order n: the sign of the place times the signed sum without that column and that row
 abbrev pub cofactorOf : ℕ → Matrix → ℕ → ℕ → ℤ
 cofactorOf n m c r = parity c *ℤ parity r *ℤ signed-sum (n - 1) (λ d s. m (skip c d) (skip r s))
 
 -- the cofactor as an outcome: refusal 1 for the place, then refusal 6
-abbrev pub cofactor : ℕ → Floats → Column → Row → Outcome ℤ
-cofactor n e c r = after (columnBelow n c) (after (rowBelow n r) (after (taken n e) (given (cofactorOf n (numbers e) (c .0) (r .0)))))
+abbrev pub cofactor : (limit n : ℕ) → Floats → Column → Row → Outcome ℤ
+cofactor limit n e c r = after (columnBelow n c) (after (rowBelow n r) (after (taken limit n e) (given (cofactorOf n (numbers e) (c .0) (r .0)))))
 
 -- ---- what is claimed of these, beside the promises
 

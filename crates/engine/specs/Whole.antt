@@ -8,6 +8,7 @@ use lib.ListN.{getD}
 use lib.IntN.{ℤ, pos, natAbs}
 use lib.Ieee.{Float, binary64, eq, ofInt, toSigned}
 use Rattle.whole.specs.Matrix.{Matrix}
+use Rattle.exact.specs.Value.{Whole}
 use Rattle.matrix.specs.Records.{array2, array3, array4}
 use Rattle.matrix.specs.Places.{at}
 use Rattle.matrix.specs.declared.records.Matrix2.{Matrix2}
@@ -21,7 +22,7 @@ abbrev pub wholeNumber : Float → ℤ
 wholeNumber x = toSigned 63 x
 
 -- the float is a whole number of magnitude at most the limit: it equals its own whole number. That this test is right is `whole-entry` of proofs/Taken.antt
-unfoldable pub isWhole : ℕ → Float → Bool
+unfoldable pub isWhole : (limit : ℕ) → Float → Bool
 isWhole limit x = leb (natAbs (wholeNumber x)) limit && eq (ofInt binary64 (wholeNumber x)) x
 
 -- ---- the test of a matrix
@@ -40,8 +41,12 @@ abbrev pub Floats : Type 0
 Floats = ℕ → ℕ → Float
 
 -- each entry below the order n is a whole number of magnitude at most the limit
-unfoldable pub wholeEntries : ℕ → ℕ → Floats → Bool
+unfoldable pub wholeEntries : (limit n : ℕ) → Floats → Bool
 wholeEntries limit n e = allPlaces n (λ c r. isWhole limit (e c r))
+
+-- the same in plain words: the exact value of each is a whole number of magnitude at most the limit. That the two agree is `whole-entries` of proofs/Taken.antt
+abbrev pub AllWhole : (limit n : ℕ) → Floats → Type 0
+AllWhole limit n e = (c r : ℕ) → c < n → r < n → Whole limit (e c r)
 
 -- the whole numbers of the entries
 abbrev pub numbers : Floats → Matrix

@@ -21,21 +21,21 @@ use vector::Refusal;
 
 // The cofactor of a place at order 2: refusal 1 for the place, then refusal 6.
 pub fn cofactor2(m: Matrix2, c: Column, r: Row) -> NumberAnswer
-    ensures { λ a. ⌜ numberOutcome a ≡ cofactor 2 (floats2 m) c r ⌝ }
+    ensures { λ a. ⌜ numberOutcome a ≡ cofactor 1024 2 (floats2 m) c r ⌝ }
 {
     cofactor_answer(Matrix4::from_matrix2(m), 2, c, r)
 }
 
 // The cofactor of a place at order 3: refusal 1 for the place, then refusal 6.
 pub fn cofactor3(m: Matrix3, c: Column, r: Row) -> NumberAnswer
-    ensures { λ a. ⌜ numberOutcome a ≡ cofactor 3 (floats3 m) c r ⌝ }
+    ensures { λ a. ⌜ numberOutcome a ≡ cofactor 1024 3 (floats3 m) c r ⌝ }
 {
     cofactor_answer(Matrix4::from_matrix3(m), 3, c, r)
 }
 
 // The cofactor of a place at order 4: refusal 1 for the place, then refusal 6.
 pub fn cofactor4(m: Matrix4, c: Column, r: Row) -> NumberAnswer
-    ensures { λ a. ⌜ numberOutcome a ≡ cofactor 4 (floats4 m) c r ⌝ }
+    ensures { λ a. ⌜ numberOutcome a ≡ cofactor 1024 4 (floats4 m) c r ⌝ }
 {
     cofactor_answer(m, 4, c, r)
 }
@@ -43,7 +43,7 @@ pub fn cofactor4(m: Matrix4, c: Column, r: Row) -> NumberAnswer
 // The cofactor of a place among the first n columns and rows.
 fn cofactor_answer(m: Matrix4, n: usize, c: Column, r: Row) -> NumberAnswer
     requires { ⌜ (1 ≤ n) × (n ≤ 4) ⌝ }
-    ensures { λ a. ⌜ numberOutcome a ≡ after (columnBelow n c) (after (rowBelow n r) (after (taken 4 (floats4 m)) (given (cofactorOf n (numbers (floats4 m)) (c .0) (r .0))))) ⌝ }
+    ensures { λ a. ⌜ numberOutcome a ≡ after (columnBelow n c) (after (rowBelow n r) (after (taken 1024 4 (floats4 m)) (given (cofactorOf n (numbers (floats4 m)) (c .0) (r .0))))) ⌝ }
 {
     if n <= c.0 {
         return NumberAnswer::Refused(Refusal::OutOfRange);

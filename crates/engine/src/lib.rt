@@ -15,6 +15,8 @@ pub use cofactors::cofactor4;
 pub use sum::signed_sum2;
 pub use sum::signed_sum3;
 pub use sum::signed_sum4;
+pub use undoable::magnitude;
+pub use undoable::one_bit;
 pub use undoable::undoable2;
 pub use undoable::undoable3;
 pub use undoable::undoable4;

@@ -17,21 +17,21 @@ use vector::Refusal;
 
 // The signed sum of order 2, or refusal 6.
 pub fn signed_sum2(m: Matrix2) -> NumberAnswer
-    ensures { λ r. ⌜ numberOutcome r ≡ signedSum 2 (floats2 m) ⌝ }
+    ensures { λ r. ⌜ numberOutcome r ≡ signedSum 1024 2 (floats2 m) ⌝ }
 {
     sum_answer(Matrix4::from_matrix2(m), 2)
 }
 
 // The signed sum of order 3, or refusal 6.
 pub fn signed_sum3(m: Matrix3) -> NumberAnswer
-    ensures { λ r. ⌜ numberOutcome r ≡ signedSum 3 (floats3 m) ⌝ }
+    ensures { λ r. ⌜ numberOutcome r ≡ signedSum 1024 3 (floats3 m) ⌝ }
 {
     sum_answer(Matrix4::from_matrix3(m), 3)
 }
 
 // The signed sum of order 4, or refusal 6.
 pub fn signed_sum4(m: Matrix4) -> NumberAnswer
-    ensures { λ r. ⌜ numberOutcome r ≡ signedSum 4 (floats4 m) ⌝ }
+    ensures { λ r. ⌜ numberOutcome r ≡ signedSum 1024 4 (floats4 m) ⌝ }
 {
     sum_answer(m, 4)
 }
@@ -39,7 +39,7 @@ pub fn signed_sum4(m: Matrix4) -> NumberAnswer
 // The signed sum of the first n columns and rows, or refusal 6.
 fn sum_answer(m: Matrix4, n: usize) -> NumberAnswer
     requires { ⌜ n ≤ 4 ⌝ }
-    ensures { λ r. ⌜ numberOutcome r ≡ after (taken 4 (floats4 m)) (given (signed-sum n (numbers (floats4 m)))) ⌝ }
+    ensures { λ r. ⌜ numberOutcome r ≡ after (taken 1024 4 (floats4 m)) (given (signed-sum n (numbers (floats4 m)))) ⌝ }
 {
     if entries::whole_entries(m) {
         NumberAnswer::Given(signed_sum(entries::numbers(m), n))

@@ -10,3 +10,4 @@ pub mod Literals
 pub mod Integers
 pub mod Known
 pub mod Reading
+pub mod Steps

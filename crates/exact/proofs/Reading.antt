@@ -63,6 +63,26 @@ places-add v w k = ap₂ (λ (m n : ℕ). m + n) (places-is v k) (places-is w k)
 places-mono : (w : ℕ) {k K : ℕ} → k ≤ K → places w k ≤ places w K
 places-mono w {k} {K} h = le-trans (le-of-eq (places-is w k)) (le-trans (mul-le-mul (le-refl w) h) (le-of-eq (sym (places-is w K))))
 
+-- ---- what the test says of the parts
+module _ (f : Format) (n K : ℕ) (w β : ℕ → ℕ) (d e : Formula) where
+  -- both parts pass it
+  abbrev Both : Bool
+  Both = stays-exact f n K w β d && stays-exact f n K w β e
+
+  -- which are these two
+  two-parts : T Both → T (stays-exact f n K w β d) × T (stays-exact f n K w β e)
+  two-parts t = (and-l (stays-exact f n K w β d) (stays-exact f n K w β e) t, and-r (stays-exact f n K w β d) (stays-exact f n K w β e) t)
+
+  -- of a sum, and so of a difference
+  pub sum-parts : T (stays-exact f n K w β (d ⊕ e)) → T (stays-exact f n K w β d) × T (stays-exact f n K w β e)
+  sum-parts t =
+      let F = fits-in f K (bound β d + bound β e) (weight w d) in
+      let E = eqb (weight w e) (weight w d) in two-parts (and-r E Both (and-r F (E && Both) t))
+
+  -- of a product
+  pub product-parts : T (stays-exact f n K w β (d ⊗ e)) → T (stays-exact f n K w β d) × T (stays-exact f n K w β e)
+  product-parts t = two-parts (and-r (fits-in f K (bound β d * bound β e) (weight w d + weight w e)) Both t)
+
 -- ---- the theorem
 -- the variables below n are known: the variable i is ζ i over w i times 2 ^ k, of magnitude at most β i
 module _ (f : Format) (n K : ℕ) (w β : ℕ → ℕ) (k : ℕ) (few : k ≤ K) (ρ : ℕ → Float) (ζ : ℕ → ℤ)

@@ -1,5 +1,6 @@
 -- Document 01, module 5: determinants and inverses, term by term as the document and the text write them.
--- Orders 2 and 3 divide by the determinant, order 4 multiplies by one reciprocal. Assumes nothing.
+-- Orders 2 and 3 divide by the determinant, order 4 multiplies by one reciprocal.
+-- The fields x, y, z, w of a matrix are its columns 0 to 3, those of a column its rows 0 to 3: `m .y .x` is the document's m[1][0]. Assumes nothing.
 use Prim.Native.Nat.{ℕ, _+_, _%_}
 use mathlib.Core.Bool.{cond}
 use mathlib.Core.List.{map}
@@ -30,18 +31,26 @@ det3 m =
     ⊖ m .y .x ⊗ (m .x .y ⊗ m .z .z ⊖ m .z .y ⊗ m .x .z)
     ⊕ m .z .x ⊗ (m .x .y ⊗ m .y .z ⊖ m .y .y ⊗ m .x .z)
 
--- an entry of det_sub_proc: each term x·(y·z), three added, then three subtracted; the letters are the text's
-unfoldable pub sixTerms : Float → Float → Float → Float → Float → Float → Float → Float → Float → Float
-sixTerms a b c d e f g h i = a ⊗ (b ⊗ c) ⊕ d ⊗ (e ⊗ f) ⊕ g ⊗ (h ⊗ i) ⊖ a ⊗ (e ⊗ i) ⊖ d ⊗ (h ⊗ c) ⊖ g ⊗ (b ⊗ f)
+-- the product entry by entry, the text's mul_element_wise
+abbrev pub timesEach : Vector4 → Vector4 → Vector4
+timesEach = vectors.zip4 _⊗_
 
--- det_sub_proc of three rows: x .y is the text's s[4 + x]
-unfoldable pub detSubProc : Vector4 → Vector4 → Vector4 → Vector4
-detSubProc x y z =
-    vector4
-    (sixTerms (x .y) (y .z) (z .w) (x .z) (y .w) (z .y) (x .w) (y .y) (z .z))
-    (sixTerms (x .w) (y .z) (z .x) (x .z) (y .x) (z .w) (x .x) (y .w) (z .z))
-    (sixTerms (x .x) (y .y) (z .w) (x .y) (y .w) (z .x) (x .w) (y .x) (z .y))
-    (sixTerms (x .z) (y .y) (z .x) (x .y) (y .x) (z .z) (x .x) (y .z) (z .y))
+-- det_sub_proc of the rows that the text names by their numbers x, y and z: entry c of a row is in column c, so `rowX .y` is the text's s[4 + x].
+-- The nine vectors are the text's a to i; a term is, entry by entry, one number times the product of two others; three are added, and then three subtracted
+unfoldable pub detSubProc : (rowX rowY rowZ : Vector4) → Vector4
+detSubProc rowX rowY rowZ =
+    let a = vector4 (rowX .y) (rowX .w) (rowX .x) (rowX .z) in
+    let b = vector4 (rowY .z) (rowY .z) (rowY .y) (rowY .y) in
+    let c = vector4 (rowZ .w) (rowZ .x) (rowZ .w) (rowZ .x) in
+    let d = vector4 (rowX .z) (rowX .z) (rowX .y) (rowX .y) in
+    let e = vector4 (rowY .w) (rowY .x) (rowY .w) (rowY .x) in
+    let f = vector4 (rowZ .y) (rowZ .w) (rowZ .x) (rowZ .z) in
+    let g = vector4 (rowX .w) (rowX .x) (rowX .w) (rowX .x) in
+    let h = vector4 (rowY .y) (rowY .w) (rowY .x) (rowY .z) in
+    let i = vector4 (rowZ .z) (rowZ .z) (rowZ .y) (rowZ .y) in
+    let term : Vector4 → Vector4 → Vector4 → Vector4 = λ p q r. timesEach p (timesEach q r) in
+    let added = vectors.add4 (vectors.add4 (term a b c) (term d e f)) (term g h i) in
+    vectors.sub4 (vectors.sub4 (vectors.sub4 added (term a e i)) (term d h c)) (term g b f)
 
 -- the vector of det_sub_proc(1, 2, 3) dot row 0
 unfoldable pub det4 : Matrix4 → Float

@@ -1,9 +1,10 @@
 // Determinants and inverses: document 01, module 5.
 ghost use mathlib.Core.Path.{_≡_};
 ghost use Prim.Native.Nat.{_<_};
+ghost use Rattle.vector.specs.Arithmetic.{_⊕_, _⊖_, _⊗_};
 ghost use Rattle.vector.specs.Vectors.{entries4, ofEntries3, without};
 ghost use Rattle.matrix.specs.Records.{matrix2Outcome, matrix3Outcome, matrix4Outcome};
-ghost use Rattle.matrix.specs.Inverse.{det2, det3, det4, sixTerms, detSubProc};
+ghost use Rattle.matrix.specs.Inverse.{det2, det3, det4, detSubProc};
 ghost use Rattle.matrix.specs.Inverse.{invert2, invert3, invert4};
 ghost use Rattle.matrix.specs.Inverse.{withoutPlace, sign, cofactor, inverseColumn};
 use crate::records::Matrix2;
@@ -151,21 +152,61 @@ fn sign_of(i: usize, j: usize) -> f64
     if (i + j) % 2 == 1 { -1.0 } else { 1.0 }
 }
 
-// The text's det_sub_proc_unsafe, handed the rows x, y and z in place of their numbers: `x.y` is its `s[4 + x]`.
-fn det_sub_proc(x: Vector4, y: Vector4, z: Vector4) -> Vector4
-    ensures { λ r. ⌜ r ≡ detSubProc x y z ⌝ }
+// The text's det_sub_proc_unsafe, handed the rows in place of their numbers x, y and z: `row_x.y` is its `s[4 + x]`.
+fn det_sub_proc(row_x: Vector4, row_y: Vector4, row_z: Vector4) -> Vector4
+    ensures { λ r. ⌜ r ≡ detSubProc «row_x» «row_y» «row_z» ⌝ }
 {
     Vector4::new(
-        six_terms(x.y, y.z, z.w, x.z, y.w, z.y, x.w, y.y, z.z),
-        six_terms(x.w, y.z, z.x, x.z, y.x, z.w, x.x, y.w, z.z),
-        six_terms(x.x, y.y, z.w, x.y, y.w, z.x, x.w, y.x, z.y),
-        six_terms(x.z, y.y, z.x, x.y, y.x, z.z, x.x, y.z, z.y),
+        six_terms(
+            row_x.y,
+            row_y.z,
+            row_z.w,
+            row_x.z,
+            row_y.w,
+            row_z.y,
+            row_x.w,
+            row_y.y,
+            row_z.z,
+        ),
+        six_terms(
+            row_x.w,
+            row_y.z,
+            row_z.x,
+            row_x.z,
+            row_y.x,
+            row_z.w,
+            row_x.x,
+            row_y.w,
+            row_z.z,
+        ),
+        six_terms(
+            row_x.x,
+            row_y.y,
+            row_z.w,
+            row_x.y,
+            row_y.w,
+            row_z.x,
+            row_x.w,
+            row_y.x,
+            row_z.y,
+        ),
+        six_terms(
+            row_x.z,
+            row_y.y,
+            row_z.x,
+            row_x.y,
+            row_y.x,
+            row_z.z,
+            row_x.x,
+            row_y.z,
+            row_z.y,
+        ),
     )
 }
 
-// An entry of that vector: three terms added, then three subtracted.
+// An entry of that vector, from the entries of the text's a to i in its place: three terms added, then three subtracted.
 fn six_terms(a: f64, b: f64, c: f64, d: f64, e: f64, f: f64, g: f64, h: f64, i: f64) -> f64
-    ensures { λ r. ⌜ r ≡ sixTerms a b c d e f g h i ⌝ }
+    ensures { λ r. ⌜ r ≡ a ⊗ (b ⊗ c) ⊕ d ⊗ (e ⊗ f) ⊕ g ⊗ (h ⊗ i) ⊖ a ⊗ (e ⊗ i) ⊖ d ⊗ (h ⊗ c) ⊖ g ⊗ (b ⊗ f) ⌝ }
 {
     a * (b * c) + d * (e * f) + g * (h * i) - a * (e * i) - d * (h * c) - g * (b * f)
 }

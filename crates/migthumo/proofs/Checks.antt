@@ -14,7 +14,7 @@ use Rattle.vector.specs.Refusals.{Outcome, given, refused, refusedFor, number, 
 use Rattle.matrix.proofs.Ranges.{both}
 use Rattle.bulk.specs.Refusals.{orderFrom, numberIs}
 use Rattle.bulk.proofs.Checks.{passed, both-true, order-is, length-is}
-use Rattle.migthumo.specs.Entries.{code, lengthsAre, fits, ordersEmbed, fitsTo}
+use Rattle.migthumo.specs.Entries.{code, lengthsAre, entryFits, ordersEmbed, fitsTo}
 
 -- ---- the widths
 
@@ -68,14 +68,14 @@ clear-lengths (n ∷ inputs) wanted e = clear-after (numberIs InputLength n want
 
 -- what holds where none of its tests refuses
 pub record Fitted (least order : ℕ) (inputs : List ℕ) (width out : ℕ) : Type 0 where
-  pub passes : fits least order inputs width out ≡ given tt
+  pub passes : entryFits least order inputs width out ≡ given tt
   pub low : least ≤ order
   pub high : order ≤ 4
   pub matrices : lengthsAre inputs (order * order) ≡ given tt
   pub room : out ≡ order ^ width
 
-pub fitted : (least order : ℕ) (inputs : List ℕ) (width out r : ℕ) → r ≡ code (fits least order inputs width out) → r ≡ 0 → Fitted least order inputs width out
-unfolding fits
+pub fitted : (least order : ℕ) (inputs : List ℕ) (width out r : ℕ) → r ≡ code (entryFits least order inputs width out) → r ≡ 0 → Fitted least order inputs width out
+unfolding entryFits
 fitted least order inputs width out r is clear =
     let passes =
     clear-after (orderFrom least order) (after (lengthsAre inputs (order * order)) (numberIs OutputLength out (order ^ width))) (clear-order least order)
@@ -117,8 +117,8 @@ twice : (o p : Outcome Unit) → after o (after o p) ≡ after o p
 twice (given u) p = refl
 twice (refused n) p = refl
 
-pub named-once : (least order m width out : ℕ) → fits least order (m ∷ m ∷ []) width out ≡ fits least order (m ∷ []) width out
-unfolding fits
+pub named-once : (least order m width out : ℕ) → entryFits least order (m ∷ m ∷ []) width out ≡ entryFits least order (m ∷ []) width out
+unfolding entryFits
 named-once least order m width out =
     ap (λ (o : Outcome Unit). after (orderFrom least order) (after o (numberIs OutputLength out (order ^ width)))) (twice (numberIs InputLength m (order * order)) (given tt))
 

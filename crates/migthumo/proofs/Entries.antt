@@ -12,7 +12,7 @@ use Rattle.matrix.specs.declared.records.Matrix2.{Matrix2}
 use Rattle.matrix.specs.declared.records.Matrix3.{Matrix3}
 use Rattle.matrix.specs.declared.records.Matrix4.{Matrix4}
 use Rattle.bulk.specs.Moves.{flat2, flat3, flat4}
-use Rattle.migthumo.specs.Entries.{code, Answers, fits, fitsTo, byOrder}
+use Rattle.migthumo.specs.Entries.{code, Answers, entryFits, fitsTo, byOrder}
 use Rattle.migthumo.specs.Flat.{numbers3, numbers4}
 use Rattle.migthumo.specs.Boundary.{ofOne, ofTwo, rotationOf, embedOf, embed}
 use Rattle.migthumo.proofs.Checks.{Fitted}
@@ -25,20 +25,20 @@ stopped (refused n) outcome is found = record { answer = is; left = refl }
 
 module _ {A : Type 0} {r : ℕ} {entry : List A} where
   pub stopped-one : (width order out : ℕ) (m : List Float) (f : Matrix2 → Outcome (List A)) (g : Matrix3 → Outcome (List A)) (h : Matrix4 → Outcome (List A))
-      → r ≡ code (fits 2 order (length m ∷ []) width out) → (r ≡ 0 → ⊥) → Answers r entry entry (ofOne width order m out f g h)
+      → r ≡ code (entryFits 2 order (length m ∷ []) width out) → (r ≡ 0 → ⊥) → Answers r entry entry (ofOne width order m out f g h)
   unfolding ofOne
-  stopped-one width order out m f g h is found = stopped (fits 2 order (length m ∷ []) width out) (byOrder order (f (flat2 m)) (g (flat3 m)) (h (flat4 m))) is found
+  stopped-one width order out m f g h is found = stopped (entryFits 2 order (length m ∷ []) width out) (byOrder order (f (flat2 m)) (g (flat3 m)) (h (flat4 m))) is found
 
   pub stopped-two : (width order out : ℕ) (a b : List Float) (f : Matrix2 → Matrix2 → Outcome (List A)) (g : Matrix3 → Matrix3 → Outcome (List A)) (h : Matrix4 → Matrix4 → Outcome (List A))
-      → r ≡ code (fits 2 order (length a ∷ length b ∷ []) width out) → (r ≡ 0 → ⊥) → Answers r entry entry (ofTwo width order a b out f g h)
+      → r ≡ code (entryFits 2 order (length a ∷ length b ∷ []) width out) → (r ≡ 0 → ⊥) → Answers r entry entry (ofTwo width order a b out f g h)
   unfolding ofTwo
   stopped-two width order out a b f g h is found =
-      stopped (fits 2 order (length a ∷ length b ∷ []) width out) (byOrder order (f (flat2 a) (flat2 b)) (g (flat3 a) (flat3 b)) (h (flat4 a) (flat4 b))) is found
+      stopped (entryFits 2 order (length a ∷ length b ∷ []) width out) (byOrder order (f (flat2 a) (flat2 b)) (g (flat3 a) (flat3 b)) (h (flat4 a) (flat4 b))) is found
 
-pub stopped-rotation : {r : ℕ} {entry : List Float} (order out : ℕ) (three : Matrix3) (four : Matrix4) → r ≡ code (fits 3 order [] 2 out) → (r ≡ 0 → ⊥) → Answers r entry entry (rotationOf order out three four)
+pub stopped-rotation : {r : ℕ} {entry : List Float} (order out : ℕ) (three : Matrix3) (four : Matrix4) → r ≡ code (entryFits 3 order [] 2 out) → (r ≡ 0 → ⊥) → Answers r entry entry (rotationOf order out three four)
 unfolding rotationOf
 stopped-rotation order out three four is found =
-    stopped (fits 3 order [] 2 out) (cond (eqb order 3) (given (numbers3 three)) (given (numbers4 four))) is found
+    stopped (entryFits 3 order [] 2 out) (cond (eqb order 3) (given (numbers3 three)) (given (numbers4 four))) is found
 
 pub stopped-embedding : {r : ℕ} {entry : List Float} (order to : ℕ) (m : List Float) (out : ℕ) → r ≡ code (fitsTo order to (length m) out) → (r ≡ 0 → ⊥) → Answers r entry entry (embed order to m out)
 unfolding embed

@@ -32,14 +32,16 @@ use denote.Triple.Entry.{onEntry}
 use denote.Triple.Spec.{Meets, tripleOf}
 use denote.Triple.Walked.{Stays, gave-ref, stay-dropped, walkOf, goes-gave-ref, goes-dropped, Walks, ends-at, walked, walk-meets}
 use denote.Triple.Clauses.{Ended, Clauses, closing}
-use denote.Exit.{yes, unchanged}
+use denote.Exit.{yes}
 use Rattle.vector.specs.Refusals.{Outcome}
 use Rattle.matrix.specs.declared.records.Matrix4.{Matrix4}
 use Rattle.matrix.proofs.records.Matrix4 as MatrixT
+use Rattle.matrix.proofs.InPlace.{Swaps}
+use Rattle.matrix.proofs.Pairs.{still}
 use Rattle.matrix.proofs.in_place.Swapped as O
 use Rattle.matrix.proofs.in_place.Swapped.Laws as O′
 use Rattle.migthumo.specs.Entries.{Answers}
-use Rattle.migthumo.proofs.InPlace.{Swaps, answered, place-val, place-vals, gives-on, ends, hears, Said, tells}
+use Rattle.migthumo.proofs.InPlace.{answered, place-val, place-vals, gives-on, ends, hears, Said, tells}
 use Rattle.migthumo.proofs.in_place.said.Symbol.{name as #said}
 
 -- the entry, of a matrix that is lent and two numbers
@@ -57,10 +59,6 @@ ended = record {
 -- of the matrix what says its last value is left, and nothing of the numbers is needed
 abbrev stayed : Stays (ended .signature .params) (ended .kept)
 stayed = (gave-ref (0 ∷ []) tt (plain (λ _. MatrixT.the-row)), (stay-dropped (plain (λ _. usize)) yes, (stay-dropped (plain (λ _. usize)) yes, tt)))
-
--- a type that is seen at exit as it was passed, as a place's is
-abbrev still : RattleType → RattleType
-still P = record { Denot = P .Denot; mir = P .mir; written = P .written; reaches = P .reaches; own = P .own; exit = λ k. unchanged; coded = P .coded }
 
 -- a kind of place, made of a number; the swap of two; and the name of the method
 module _ (P : RattleType) (at : ℕ → P .Denot) (swap : Matrix4 → P .Denot → P .Denot → Outcome Matrix4) (#g : Name) where

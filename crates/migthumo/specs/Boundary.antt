@@ -7,7 +7,7 @@ use lib.Dec.{eqb}
 use mathlib.Core.Bool.{cond}
 use lib.IntN.{ℤ}
 use lib.Ieee.{Float}
-use Rattle.vector.specs.Refusals.{Outcome, given, after}
+use Rattle.vector.specs.Refusals.{Outcome, given, after, over}
 use Rattle.vector.specs.Vectors.{entries2, entries3, entries4}
 use Rattle.vector.specs.declared.refusal.Refusal.the-variants.{OutputLength}
 use Rattle.vector.specs.declared.Vector2.{Vector2}
@@ -27,7 +27,7 @@ use Rattle.engine.specs.Whole.{floats2, floats3, floats4}
 use Rattle.engine.specs.Engine as engine
 use Rattle.bulk.specs.Moves.{flat2, flat3, flat4}
 use Rattle.bulk.specs.Refusals.{numberIs}
-use Rattle.migthumo.specs.Entries.{fits, fitsTo, byOrder, over}
+use Rattle.migthumo.specs.Entries.{entryFits, fitsTo, byOrder}
 use Rattle.migthumo.specs.Flat.{numbers2, numbers3, numbers4, alone, flag}
 
 -- ---- what is made of one matrix, of two, of none
@@ -35,18 +35,18 @@ use Rattle.migthumo.specs.Flat.{numbers2, numbers3, numbers4, alone, fla
 -- numbers of one matrix, as many as the width says
 unfoldable pub ofOne : {A : Type 0} → ℕ → ℕ → List Float → ℕ → (Matrix2 → Outcome (List A)) → (Matrix3 → Outcome (List A)) → (Matrix4 → Outcome (List A)) → Outcome (List A)
 ofOne width order m out f g h =
-    after (fits 2 order (length m ∷ []) width out) (byOrder order (f (flat2 m)) (g (flat3 m)) (h (flat4 m)))
+    after (entryFits 2 order (length m ∷ []) width out) (byOrder order (f (flat2 m)) (g (flat3 m)) (h (flat4 m)))
 
 -- numbers of two matrices
 unfoldable pub ofTwo : {A : Type 0} → ℕ → ℕ → List Float → List Float → ℕ → (Matrix2 → Matrix2 → Outcome (List A)) → (Matrix3 → Matrix3 → Outcome (List A)) → (Matrix4 → Matrix4 → Outcome (List A)) → Outcome (List A)
 ofTwo width order a b out f g h =
-    after (fits 2 order (length a ∷ length b ∷ []) width out)
+    after (entryFits 2 order (length a ∷ length b ∷ []) width out)
     (byOrder order (f (flat2 a) (flat2 b)) (g (flat3 a) (flat3 b)) (h (flat4 a) (flat4 b)))
 
 -- a rotation, of no matrix, at order 3 or 4
 unfoldable pub rotationOf : ℕ → ℕ → Matrix3 → Matrix4 → Outcome (List Float)
 rotationOf order out three four =
-    after (fits 3 order [] 2 out) (cond (eqb order 3) (given (numbers3 three)) (given (numbers4 four)))
+    after (entryFits 3 order [] 2 out) (cond (eqb order 3) (given (numbers3 three)) (given (numbers4 four)))
 
 -- a matrix of one matrix
 abbrev pub matrixOf : ℕ → List Float → ℕ → (Matrix2 → Outcome Matrix2) → (Matrix3 → Outcome Matrix3) → (Matrix4 → Outcome Matrix4) → Outcome (List Float)
@@ -107,16 +107,16 @@ negate order m out =
 abbrev pub signedSum : ℕ → List Float → ℕ → Outcome (List ℤ)
 signedSum order m out =
     ofOne 0 order m out
-    (λ x. over alone (engine.signedSum 2 (floats2 x)))
-    (λ x. over alone (engine.signedSum 3 (floats3 x)))
-    (λ x. over alone (engine.signedSum 4 (floats4 x)))
+    (λ x. over alone (engine.signedSum 1024 2 (floats2 x)))
+    (λ x. over alone (engine.signedSum 1024 3 (floats3 x)))
+    (λ x. over alone (engine.signedSum 1024 4 (floats4 x)))
 
 abbrev pub undoable : ℕ → List Float → ℕ → Outcome (List ℕ)
 undoable order m out =
     ofOne 0 order m out
-    (λ x. over flag (engine.undoable 2 (floats2 x)))
-    (λ x. over flag (engine.undoable 3 (floats3 x)))
-    (λ x. over flag (engine.undoable 4 (floats4 x)))
+    (λ x. over flag (engine.undoable 1024 2 (floats2 x)))
+    (λ x. over flag (engine.undoable 1024 3 (floats3 x)))
+    (λ x. over flag (engine.undoable 1024 4 (floats4 x)))
 
 -- ---- places
 

@@ -19,11 +19,6 @@ pub record Answers {A : Type 0} (r : ℕ) (entry exit : A) (outcome : Outcome A)
   pub answer : r ≡ code outcome
   pub left : exit ≡ leaves entry outcome
 
--- what was given, made over
-abbrev pub over : {A B : Type 0} → (A → B) → Outcome A → Outcome B
-over f (given a) = given (f a)
-over f (refused n) = refused n
-
 -- refusal 3 unless each input has the length wanted
 abbrev pub lengthsAre : List ℕ → ℕ → Outcome Unit
 lengthsAre [] wanted = given tt
@@ -31,8 +26,8 @@ lengthsAre (n ∷ inputs) wanted = after (numberIs InputLength n wanted) (length
 
 -- the order, from the least one that the entry takes; each input, a matrix of order² numbers; the output,
 -- one number at width 0, a vector of `order` numbers at 1, a matrix of order² at 2
-unfoldable pub fits : ℕ → ℕ → List ℕ → ℕ → ℕ → Outcome Unit
-fits least order inputs width output =
+unfoldable pub entryFits : (least order : ℕ) (inputs : List ℕ) (width output : ℕ) → Outcome Unit
+entryFits least order inputs width output =
     after (orderFrom least order)
     (after (lengthsAre inputs (order * order))
     (numberIs OutputLength output (order ^ width)))

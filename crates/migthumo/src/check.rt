@@ -2,7 +2,7 @@
 ghost use mathlib.Core.Path.{_≡_};
 ghost use mathlib.Core.List.{[], _∷_};
 ghost use Prim.Native.Nat.{_^_, _≤_};
-ghost use Rattle.migthumo.specs.Entries.{code, fits, fitsTo};
+ghost use Rattle.migthumo.specs.Entries.{code, entryFits, fitsTo};
 use vector::Refusal;
 
 // How many numbers an output holds: one at width 0, a vector at 1, a matrix at 2.
@@ -20,7 +20,7 @@ fn wanted(order: usize, width: usize) -> usize
 // The tests of an entry that takes two matrices, of lengths a and b.
 pub(crate) fn two(order: usize, a: usize, b: usize, width: usize, out: usize) -> u32
     requires { ⌜ width ≤ 2 ⌝ }
-    ensures { λ r. ⌜ r ≡ code (fits 2 order (a ∷ b ∷ []) width out) ⌝ }
+    ensures { λ r. ⌜ r ≡ code (entryFits 2 order (a ∷ b ∷ []) width out) ⌝ }
 {
     if order < 2 {
         return Refusal::Order.number();
@@ -43,14 +43,14 @@ pub(crate) fn two(order: usize, a: usize, b: usize, width: usize, out: usize) ->
 // The tests of an entry that takes one matrix, of length m.
 pub(crate) fn one(order: usize, m: usize, width: usize, out: usize) -> u32
     requires { ⌜ width ≤ 2 ⌝ }
-    ensures { λ r. ⌜ r ≡ code (fits 2 order (m ∷ []) width out) ⌝ }
+    ensures { λ r. ⌜ r ≡ code (entryFits 2 order (m ∷ []) width out) ⌝ }
 {
     two(order, m, m, width, out)
 }
 
 // The tests of a rotation, which takes no matrix and starts at order 3.
 pub(crate) fn rotation(order: usize, out: usize) -> u32
-    ensures { λ r. ⌜ r ≡ code (fits 3 order [] 2 out) ⌝ }
+    ensures { λ r. ⌜ r ≡ code (entryFits 3 order [] 2 out) ⌝ }
 {
     if order < 3 {
         return Refusal::Order.number();

@@ -6,7 +6,7 @@ use mathlib.Core.Bool.{Bool, true, false, _&&_}
 use mathlib.Core.List.{List, [], _∷_}
 use lib.Dec.{T}
 use lib.Ieee.{Float, binary64, eq, ofInt}
-use Rattle.vector.specs.Refusals.{Outcome, given, refused}
+use Rattle.vector.specs.Refusals.{Outcome, given, refused, over}
 use Rattle.vector.specs.Vectors.{ofEntries3}
 use Rattle.matrix.specs.Records.{array2, array3, array4, ofArray2, ofArray3, ofArray4}
 use Rattle.matrix.specs.Places as places
@@ -46,24 +46,19 @@ pub record Case : Type 0 where
 abbrev pub single : Float → Columns
 single x = (x ∷ []) ∷ []
 
--- an outcome's values as columns
-abbrev pub columns : {M : Type 0} → (M → Columns) → Outcome M → Outcome Columns
-columns array (given m) = given (array m)
-columns array (refused n) = refused n
-
--- the outcome of an operation
+-- the outcome of an operation, its values as columns
 abbrev pub answer : Operation → Outcome Columns
 answer (determinant2 m) = given (single (det2 (ofArray2 m)))
 answer (determinant3 m) = given (single (det3 (ofArray3 m)))
 answer (determinant4 m) = given (single (det4 (ofArray4 m)))
-answer (invert2of m) = columns array2 (invert2 (ofArray2 m))
-answer (invert3of m) = columns array3 (invert3 (ofArray3 m))
-answer (invert4of m) = columns array4 (invert4 (ofArray4 m))
+answer (invert2of m) = over array2 (invert2 (ofArray2 m))
+answer (invert3of m) = over array3 (invert3 (ofArray3 m))
+answer (invert4of m) = over array4 (invert4 (ofArray4 m))
 answer (times2 a b) = given (array2 (mul2 (ofArray2 a) (ofArray2 b)))
 answer (axisAngle3 axis s c) = given (array3 (fromAxisAngle3 (ofEntries3 axis) s c))
-answer (swapRows2 m a b) = columns array2 (places.swapRows2 (ofArray2 m) (record { 0 = a }) (record { 0 = b }))
-answer (signedSum2 m) = columns (λ z. single (ofInt binary64 z)) (signedSum 2 (floats2 (ofArray2 m)))
-answer (swapColumns2 m a b) = columns array2 (places.swapColumns2 (ofArray2 m) (record { 0 = a }) (record { 0 = b }))
+answer (swapRows2 m a b) = over array2 (places.swapRows2 (ofArray2 m) (record { 0 = a }) (record { 0 = b }))
+answer (signedSum2 m) = over (λ z. single (ofInt binary64 z)) (signedSum 1024 2 (floats2 (ofArray2 m)))
+answer (swapColumns2 m a b) = over array2 (places.swapColumns2 (ofArray2 m) (record { 0 = a }) (record { 0 = b }))
 
 -- ---- the one claim
 

@@ -141,8 +141,8 @@ module _ (list : List ℤ) where
     small-place : (c r : ℕ) → c < n → r < n → natAbs (columns n list c r) ≤ 1024
     small-place c r h l = small .each (c * n + r) (place n c r h l)
 
-    all-taken : taken n e ≡ given tt
-    all-taken = taken-yes n e (true-of (wholeEntries 1024 n e) (whole-entries 1024 n e (lit< tt) .1 (λ c r h l. rw (floats .each c r h l) (taken-float (columns n list c r) (small-place c r h l)))))
+    all-taken : taken 1024 n e ≡ given tt
+    all-taken = taken-yes 1024 n e (true-of (wholeEntries 1024 n e) (whole-entries 1024 n e (lit< tt) .1 (λ c r h l. rw (floats .each c r h l) (taken-float (columns n list c r) (small-place c r h l)))))
       where
         true-of : (b : Bool) → T b → b ≡ true
         true-of true t = refl
@@ -152,11 +152,11 @@ module _ (list : List ℤ) where
     same c r h l = rw (floats .each c r h l) (number-back (columns n list c r) (small-place c r h l))
 
     -- the engine's sum
-    sum-is : (z : ℤ) (o : Outcome ℤ) → o ≡ signedSum n e → z ≡ numberIn o → z ≡ signed-sum n (columns n list)
+    sum-is : (z : ℤ) (o : Outcome ℤ) → o ≡ signedSum 1024 n e → z ≡ numberIn o → z ≡ signed-sum n (columns n list)
     sum-is z o answered given-is = given-is ∙ rw (answered, all-taken) (signed-sum-ext n (numbers e) (columns n list) same)
 
     -- the engine's cofactor
-    cofactor-is : (z : ℤ) (o : Outcome ℤ) (c : Column) (r : Row) → c .0 < n → r .0 < n → o ≡ cofactor n e c r → z ≡ numberIn o → z ≡ cofactorOf n (columns n list) (c .0) (r .0)
+    cofactor-is : (z : ℤ) (o : Outcome ℤ) (c : Column) (r : Row) → c .0 < n → r .0 < n → o ≡ cofactor 1024 n e c r → z ≡ numberIn o → z ≡ cofactorOf n (columns n list) (c .0) (r .0)
     cofactor-is z o c r h l answered given-is =
         given-is ∙ rw (answered, within n (c .0) h, within n (r .0) l, all-taken)
         (ap (λ (k : ℤ). parity (c .0) *ℤ parity (r .0) *ℤ k)
@@ -184,9 +184,9 @@ module _ {n : ℕ} {list : List ℤ} (small : SmallList (n * n) list) (k : ℕ) 
 
   module _ {e : Floats} (floats : AsFloats k list e) {z : ℤ} (fits : mag z < 2 ^ 63) (o : Outcome ℤ) (given-is : z ≡ numberIn o) where
     -- the number that the code holds is the sum
-    pub arm-sum : o ≡ signedSum k e → toZ w64 (ofZ w64 z) ≡ signed-sum n (columns n list)
+    pub arm-sum : o ≡ signedSum 1024 k e → toZ w64 (ofZ w64 z) ≡ signed-sum n (columns n list)
     arm-sum answered = back z fits ∙ rw arm (sum-is list k e small-arm floats z o answered given-is)
 
     -- and the cofactor
-    pub arm-cofactor : (c r : ℕ) → c < n → r < n → o ≡ cofactor k e (record { 0 = c }) (record { 0 = r }) → toZ w64 (ofZ w64 z) ≡ cofactorOf n (columns n list) c r
+    pub arm-cofactor : (c r : ℕ) → c < n → r < n → o ≡ cofactor 1024 k e (record { 0 = c }) (record { 0 = r }) → toZ w64 (ofZ w64 z) ≡ cofactorOf n (columns n list) c r
     arm-cofactor c r h l answered = back z fits ∙ rw arm (cofactor-is list k e small-arm floats z o (record { 0 = c }) (record { 0 = r }) (rw arm at h) (rw arm at l) answered given-is)

@@ -10,3 +10,4 @@ pub mod Alike
 pub mod Lines
 pub mod Fits
 pub mod Lowest
+pub mod Unique

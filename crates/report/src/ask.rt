@@ -9,7 +9,6 @@ ghost use Rattle.engine.specs.Engine.{numberOutcome, cofactorOf};
 ghost use Rattle.report.specs.Words.{all};
 ghost use Rattle.report.specs.Report.{small};
 ghost use Rattle.report.specs.Entries.{columns, SmallList, Square, floatAt, AsFloats, numberIn};
-use crate::write;
 use engine::NumberAnswer;
 use matrix::Column;
 use matrix::Matrix2;
@@ -99,7 +98,7 @@ pub(crate) fn all_small(list: [i64; 16], count: usize) -> bool
     let mut i = 0;
     while i < count {
         let z = list[i];
-        if 1024 < write::magnitude(z) {
+        if 1024 < engine::magnitude(z) {
             return false;
         }
         i += 1;

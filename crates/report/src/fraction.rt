@@ -6,7 +6,6 @@ ghost use Prim.Native.Nat.{_≤_};
 ghost use lib.IntN.{pos, _*ℤ_};
 ghost use lib.ListN.{length};
 ghost use lib.Signed.{ltZ};
-ghost use Rattle.engine.specs.Engine.{oneBit};
 ghost use Rattle.report.specs.Text.{text as Text·text};
 ghost use Rattle.report.specs.Written.{Wrote};
 ghost use Rattle.report.specs.Report.{halved as Report·halved, reduced as Report·reduced, ratioText, fraction as Report·fraction};
@@ -16,13 +15,6 @@ use crate::write;
 pub(crate) struct Ratio {
     pub over: u64,
     pub under: u64,
-}
-
-// Whether exactly one bit is set: whether the number is a power of two.
-pub(crate) fn one_bit(n: u64) -> bool
-    ensures { λ r. ⌜ r ≡ oneBit n ⌝ }
-{
-    u64::count_ones(n) == 1
 }
 
 // Both halved as long as both are even.
@@ -50,7 +42,7 @@ fn halved(a: u64, b: u64) -> Ratio
 fn reduced(a: u64, b: u64) -> Ratio
     ensures { λ r. ⌜ r ≡ Report·reduced a b ⌝ }
 {
-    if one_bit(b) {
+    if engine::one_bit(b) {
         return halved(a, b);
     }
     Ratio { over: a, under: b }
@@ -94,5 +86,9 @@ pub(crate) fn fraction(out: &mut [u8], at: usize, k: i64, s: i64) -> usize
     ensures { λ r. ⌜ Wrote (now (out .entry)) at (Report·fraction k s) (now (out .exit)) r ⌝ }
 {
     let next = minus(out, at, k, s);
-    unsigned(out, next, reduced(write::magnitude(k), write::magnitude(s)))
+    unsigned(
+        out,
+        next,
+        reduced(engine::magnitude(k), engine::magnitude(s)),
+    )
 }

@@ -2,9 +2,7 @@
 ghost use mathlib.Core.Bool.{true, false};
 ghost use mathlib.Core.List.{_++_};
 ghost use Prim.Native.Nat.{_≤_, _<_};
-ghost use lib.IntN.{natAbs};
 ghost use lib.ListN.{length};
-ghost use Rattle.engine.specs.Engine.{oneBit};
 ghost use Rattle.report.specs.Text.{text as Text·text};
 ghost use Rattle.report.specs.Written.{Wrote};
 ghost use Rattle.report.specs.Entries.{columns, Square};
@@ -120,7 +118,7 @@ fn inverse(out: &mut [u8], at: usize, list: [i64; 16], n: usize, sum: i64) -> us
     requires { ⌜ (at ≤ length (now out)) × Square n list ⌝ }
     ensures { λ t. ⌜ Wrote (now (out .entry)) at (inverseReport n (columns n list) sum) (now (out .exit)) t ⌝ }
 {
-    let exact = fraction::one_bit(write::magnitude(sum));
+    let exact = engine::one_bit(engine::magnitude(sum));
     let next = exactness(out, at, exact);
     let next = rows(out, next, list, n, sum, true);
     comes_back(out, next, n, exact)

@@ -1,11 +1,9 @@
 // Bytes, texts and whole numbers, written to a lent slice from a place on; what finds no room is left out.
-ghost use mathlib.Core.Path.{_≡_};
 ghost use mathlib.Core.Bool.{cond};
 ghost use mathlib.Core.List.{[], _∷_};
 ghost use Prim.Native.Nat.{_/_, _≤_, _<_};
 ghost use lib.Dec.{leb};
 ghost use lib.ListN.{length};
-ghost use lib.IntN.{natAbs};
 ghost use Rattle.report.specs.Text.{digit, decimal as Text·decimal, whole as Text·whole};
 ghost use Rattle.report.specs.Written.{Wrote};
 
@@ -62,17 +60,6 @@ pub(crate) fn decimal(out: &mut [u8], at: usize, n: u64) -> usize
     put(out, next, 48 + (n % 10) as u8)
 }
 
-// The magnitude of a whole number; the least one's is 2^63.
-pub(crate) fn magnitude(z: i64) -> u64
-    ensures { λ r. ⌜ r ≡ natAbs z ⌝ }
-{
-    if z < 0 {
-        ((-1 - z) as u64) + 1
-    } else {
-        z as u64
-    }
-}
-
 // A whole number in decimal.
 pub(crate) fn whole(out: &mut [u8], at: usize, z: i64) -> usize
     requires { ⌜ at ≤ length (now out) ⌝ }
@@ -80,7 +67,7 @@ pub(crate) fn whole(out: &mut [u8], at: usize, z: i64) -> usize
 {
     if z < 0 {
         let next = text(out, at, b"-");
-        return decimal(out, next, magnitude(z));
+        return decimal(out, next, engine::magnitude(z));
     }
-    decimal(out, at, magnitude(z))
+    decimal(out, at, engine::magnitude(z))
 }

@@ -1,3 +1,4 @@
 pub mod Checks
 pub mod Answers
 pub mod Decided
+pub mod Unique

@@ -38,10 +38,14 @@ abbrev pub after : {A : Type 0} → Outcome Unit → Outcome A → Outcome A
 after (given _) outcome = outcome
 after (refused n) outcome = refused n
 
+-- what was given, made over by f; a refusal stays as it is
+abbrev pub over : {A B : Type 0} → (A → B) → Outcome A → Outcome B
+over f (given a) = given (f a)
+over f (refused n) = refused n
+
 -- the answer of an entry that writes to what is lent: done, or the refusal
 abbrev pub done : {A : Type 0} → Outcome A → Outcome Unit
-done (given _) = given tt
-done (refused n) = refused n
+done = over (λ _. tt)
 
 -- what is lent at the end: the values given, or where refused what stood there before
 abbrev pub leaves : {A : Type 0} → A → Outcome A → A

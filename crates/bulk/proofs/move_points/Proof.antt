@@ -15,7 +15,7 @@ enum-told : tie.Need-enum-told
 enum-told c = search needs
 
 move-each-requires : tie.Need-move-each-requires
-move-each-requires c κs = fitting 1 _ _ _ _ (passes _ _ (c .before .before .before .check .ensures) (c .before .enum-told .given .1))
+move-each-requires c κs = fitting 1 _ _ (passes _ _ (c .before .before .before .check .ensures) (c .before .enum-told .given .1))
 
 returns : tie.Need-returns
 returns c =

@@ -6,22 +6,22 @@ use Rattle.bulk.proofs.vectors.move_each.Statement.{statement}
 use Rattle.bulk.proofs.vectors.move_each.Tie as tie
 
 matrix2-requires : tie.Need-matrix2-requires
-matrix2-requires c κs = squared _ _ _ _ _ (c .before .before .before .before .pre) 2 (c .match .keys1)
+matrix2-requires c κs = squared _ _ _ (c .before .before .before .before .pre) 2 (c .match .keys1)
 
 move-each2-requires : tie.Need-move-each2-requires
-move-each2-requires c κs = wholes _ _ _ _ _ (c .before .before .before .before .before .before .pre) 2 (c .before .before .match .keys1)
+move-each2-requires c κs = wholes _ _ _ (c .before .before .before .before .before .before .pre) 2 (c .before .before .match .keys1)
 
 matrix3-requires : tie.Need-matrix3-requires
-matrix3-requires c κs = squared _ _ _ _ _ (c .before .before .before .before .pre) 3 (c .match .keys2)
+matrix3-requires c κs = squared _ _ _ (c .before .before .before .before .pre) 3 (c .match .keys2)
 
 move-each3-requires : tie.Need-move-each3-requires
-move-each3-requires c κs = wholes _ _ _ _ _ (c .before .before .before .before .before .before .pre) 3 (c .before .before .match .keys2)
+move-each3-requires c κs = wholes _ _ _ (c .before .before .before .before .before .before .pre) 3 (c .before .before .match .keys2)
 
 matrix4-requires : tie.Need-matrix4-requires
-matrix4-requires c κs = squared _ _ _ _ _ (c .before .before .before .before .pre) 4 (vectors-last _ _ _ _ (c .before .before .before .before .pre) (c .match .rest .0 .1) (c .match .rest .1))
+matrix4-requires c κs = squared _ _ _ (c .before .before .before .before .pre) 4 (vectors-last _ _ (c .before .before .before .before .pre) (c .match .rest .0 .1) (c .match .rest .1))
 
 move-each4-requires : tie.Need-move-each4-requires
-move-each4-requires c κs = wholes _ _ _ _ _ (c .before .before .before .before .before .before .pre) 4 (vectors-last _ _ _ _ (c .before .before .before .before .before .before .pre) (c .before .before .match .rest .0 .1) (c .before .before .match .rest .1))
+move-each4-requires c κs = wholes _ _ _ (c .before .before .before .before .before .before .pre) 4 (vectors-last _ _ (c .before .before .before .before .before .before .pre) (c .before .before .match .rest .0 .1) (c .before .before .match .rest .1))
 
 same-length : tie.Need-same-length
 same-length c = search needs
@@ -39,7 +39,7 @@ same-length-3 : tie.Need-same-length-3
 same-length-3 c = search needs
 
 returns-3 : tie.Need-returns-3
-returns-3 c = vectors4 _ _ _ _ _ (vectors-last _ _ _ _ (c .before .before .before .before .before .before .before .before .before .pre) (c .before .before .before .before .before .match .rest .0 .1) (c .before .before .before .before .before .match .rest .1)) (c .before .before .before .before .matrix4 .ensures) (c .before .before .move-each4 .ensures)
+returns-3 c = vectors4 _ _ _ _ _ (vectors-last _ _ (c .before .before .before .before .before .before .before .before .before .pre) (c .before .before .before .before .before .match .rest .0 .1) (c .before .before .before .before .before .match .rest .1)) (c .before .before .before .before .matrix4 .ensures) (c .before .before .move-each4 .ensures)
 
 pub move-each-spec : {M : Type 1} → statement M
 move-each-spec =

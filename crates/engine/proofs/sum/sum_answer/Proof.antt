@@ -34,14 +34,14 @@ returns : tie.Need-returns
 returns c =
     let then = c .before .before in
     let n = then .before .before .args .n in
-    given-after _ (taken-yes 4 _ (passed then))
+    given-after _ (taken-yes 1024 4 _ (passed then))
     (back _ (c .signed-sum .ok)
     ∙ c .signed-sum .ensures
     ∙ ap (λ (a : List (List ℤ)). signed-sum n (wholes a)) (c .before .numbers .ensures)
     ∙ ap (signed-sum n) (array-numbers (array4 (then .before .before .args .m))))
 
 returns-2 : tie.Need-returns-2
-returns-2 c = refused-after _ _ 6 (taken-no 4 _ (sym (c .before .whole-entries .ensures) ∙ c .if1 .left))
+returns-2 c = refused-after _ _ 6 (taken-no 1024 4 _ (sym (c .before .whole-entries .ensures) ∙ c .if1 .left))
 
 pub sum-answer-spec : {M : Type 1} → statement M
 sum-answer-spec =

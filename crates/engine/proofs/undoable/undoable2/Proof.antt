@@ -1,6 +1,7 @@
 -- The sum's outcome, tested. Assumes nothing.
 use mathlib.Core.Path.{_∙_, ap}
 use borrow.Author.Needs.{needs}
+use Rattle.vector.specs.Refusals.{over}
 use Rattle.whole.specs.Order.{signed-sum}
 use Rattle.engine.specs.Whole.{floats2, numbers}
 use Rattle.engine.specs.Engine.{taken, undoableSum}
@@ -17,7 +18,7 @@ undoable-sum-requires c κs = search needs
 returns : tie.Need-returns
 returns c =
     let e = floats2 (c .before .before .args .m) in
-    c .undoable-sum .ensures ∙ ap undoableSum (c .before .signed-sum2 .ensures) ∙ sum-tested (taken 2 e) (signed-sum 2 (numbers e))
+    c .undoable-sum .ensures ∙ ap (over undoableSum) (c .before .signed-sum2 .ensures) ∙ sum-tested (taken 1024 2 e) (signed-sum 2 (numbers e))
 
 pub undoable2-spec : {M : Type 1} → statement M
 undoable2-spec = tie.close (tie.spec signed-sum2-requires undoable-sum-requires returns)

@@ -1,6 +1,7 @@
 -- The sum's outcome, tested. Assumes nothing.
 use mathlib.Core.Path.{_∙_, ap}
 use borrow.Author.Needs.{needs}
+use Rattle.vector.specs.Refusals.{over}
 use Rattle.whole.specs.Order.{signed-sum}
 use Rattle.engine.specs.Whole.{floats4, numbers}
 use Rattle.engine.specs.Engine.{taken, undoableSum}
@@ -17,7 +18,7 @@ undoable-sum-requires c κs = search needs
 returns : tie.Need-returns
 returns c =
     let e = floats4 (c .before .before .args .m) in
-    c .undoable-sum .ensures ∙ ap undoableSum (c .before .signed-sum4 .ensures) ∙ sum-tested (taken 4 e) (signed-sum 4 (numbers e))
+    c .undoable-sum .ensures ∙ ap (over undoableSum) (c .before .signed-sum4 .ensures) ∙ sum-tested (taken 1024 4 e) (signed-sum 4 (numbers e))
 
 pub undoable4-spec : {M : Type 1} → statement M
 undoable4-spec = tie.close (tie.spec signed-sum4-requires undoable-sum-requires returns)

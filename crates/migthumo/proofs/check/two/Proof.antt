@@ -1,7 +1,7 @@
 -- What is found is what the tests say, one after the other. Assumes nothing.
 use native.Mathlib.Omega.{arith}
 use Rattle.bulk.proofs.Checks.{order-taken, order-low, order-high, square-small, length-right, length-wrong}
-use Rattle.migthumo.specs.Entries.{fits}
+use Rattle.migthumo.specs.Entries.{entryFits}
 use borrow.Author.Needs.{needs}
 use Rattle.migthumo.proofs.check.two.Statement.{statement}
 use Rattle.migthumo.proofs.check.two.Tie as tie
@@ -10,14 +10,14 @@ number-requires : tie.Need-number-requires
 number-requires c κs = search needs
 
 returns : tie.Need-returns
-unfolding fits
+unfolding entryFits
 returns c = rw (c .number .ensures, order-low _ _ (c .before .if1 .taken))
 
 number-requires-2 : tie.Need-number-requires-2
 number-requires-2 c κs = search needs
 
 returns-2 : tie.Need-returns-2
-unfolding fits
+unfolding entryFits
 returns-2 c = rw (c .number2 .ensures, order-high _ _ (c .before .before .if1 .left) (c .before .if2 .taken))
 
 mul-if3 : tie.Need-mul-if3
@@ -27,7 +27,7 @@ number-requires-3 : tie.Need-number-requires-3
 number-requires-3 c κs = search needs
 
 returns-3 : tie.Need-returns-3
-unfolding fits
+unfolding entryFits
 returns-3 c =
     let o = c .before .before in
     rw (c .number3 .ensures, order-taken _ _ (o .before .if1 .left) (o .if2 .left), length-wrong _ _ _ (c .before .if3 .taken))
@@ -39,7 +39,7 @@ number-requires-4 : tie.Need-number-requires-4
 number-requires-4 c κs = search needs
 
 returns-4 : tie.Need-returns-4
-unfolding fits
+unfolding entryFits
 returns-4 c =
     let a = c .before .before in
     let o = a .before in
@@ -52,7 +52,7 @@ number-requires-5 : tie.Need-number-requires-5
 number-requires-5 c κs = search needs
 
 returns-5 : tie.Need-returns-5
-unfolding fits
+unfolding entryFits
 returns-5 c =
     let w = c .before .before in
     let b = w .before in
@@ -60,7 +60,7 @@ returns-5 c =
     rw (c .number5 .ensures, order-taken _ _ (o .before .if1 .left) (o .if2 .left), length-right _ _ _ (b .before .if3 .left), length-right _ _ _ (b .if4 .left), ← w .wanted .ensures, length-wrong _ _ _ (c .before .if5 .taken))
 
 returns-6 : tie.Need-returns-6
-unfolding fits
+unfolding entryFits
 returns-6 c =
     let w = c .before in
     let b = w .before in
