@@ -1,0 +1,7 @@
+pub mod Parts
+pub mod Inverse
+pub mod Products
+pub mod Places
+pub mod Engine
+pub mod Moves
+pub mod Demand
