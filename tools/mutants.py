@@ -11,7 +11,7 @@ Usage: tools/mutants.py [--seed N] [--count N] [--work DIR] [--resume FILE] [--l
     --list         print every mutant of the crates and try none
     --only NAME    try every mutant with this name and no others (a part of a name will do; may be given again)
 
-The crates by default: bits, vector, bulk, engine, matrix, migthumo, report. `whole`, `exact` and `reference` have no code.
+The crates by default: bits, vector, bulk, engine, matrix, migthumo, report. `whole`, `exact`, `reference` and `slips` have no code.
 The programs `cases`, `replay` and `comesback` are left out: what they promise is what they write, which the gate compares and no prover.
 
 A mutant changes the body of one function, public or private, or the value of one constant; never a contract:

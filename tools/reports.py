@@ -1,9 +1,13 @@
 #!/usr/bin/env python3
-"""reports.py: prints what crates/cases must write for the lines of src/reports.rt, worked out here with fractions and
-permutations, apart from the crate's own code and definitions. reports.py table: prints the lines as that file has them."""
+"""The reports that crates/cases must write, worked out with fractions and permutations, apart from the crate's own code.
+
+Usage: tools/reports.py            prints them, with their lines, as crates/cases/stdout has them
+       tools/reports.py table      prints the lines as crates/cases/src/reports.rt has them
+       tools/reports.py check      fails where one of the two files has something else
+"""
 import sys
 from fractions import Fraction
-from itertools import permutations
+from itertools import permutations, zip_longest
 
 LINES = [
     "2 3 5 1 2", "2 2 0 0 4", "2 0 1 1 0", "2 -1 0 0 1", "2 3 0 0 1", "2 6 2 4 -10", "2 1024 0 0 1024", "2 1024 -1024 1024 1024",
@@ -76,15 +80,40 @@ def report(line):
     return out
 
 
-if __name__ == "__main__":
+def reports():
+    return "".join(f"comesback {line}\n" + "\n".join(report(line)) + "\nreport: ok\n" for line in LINES)
+
+
+def table():
     width = max(map(len, LINES)) + 1
-    if sys.argv[1:] == ["table"]:
-        print(f"const LINES: [[u8; {width}]; {len(LINES)}] = [")
-        for line in LINES:
-            print(f'    *b"{(line + "|").ljust(width)}",')
-        print("];")
+    rows = "".join(f'    *b"{(line + "|").ljust(width)}",\n' for line in LINES)
+    return f"const LINES: [[u8; {width}]; {len(LINES)}] = [\n{rows}];\n"
+
+
+def between(path, first, last):
+    """A file's lines from the first that begins with one text to the last that is another."""
+    lines = open(path, encoding="utf-8").read().splitlines(keepends=True)
+    begins = [i for i, line in enumerate(lines) if line.startswith(first)]
+    ends = [i for i, line in enumerate(lines) if line == last + "\n"]
+    return "".join(lines[begins[0] : ends[-1] + 1]) if begins and ends else ""
+
+
+def check():
+    held = {
+        "crates/cases/stdout": (between("crates/cases/stdout", "comesback ", "report: ok"), reports()),
+        "crates/cases/src/reports.rt": (between("crates/cases/src/reports.rt", "const LINES", "];"), table()),
+    }
+    for path, (found, expected) in held.items():
+        pairs = zip_longest(found.splitlines(), expected.splitlines())
+        different = [pair for pair in pairs if pair[0] != pair[1]]
+        if different:
+            print(f"DIFFERENT: {path} has {different[0][0]!r}, and it is to be {different[0][1]!r}")
+            sys.exit(1)
+    print(f"{len(LINES)} lines and their reports: the table and the stored output are what is worked out here")
+
+
+if __name__ == "__main__":
+    if sys.argv[1:] == ["check"]:
+        check()
     else:
-        for line in LINES:
-            print(f"comesback {line}")
-            print("\n".join(report(line)))
-            print("report: ok")
+        print(table() if sys.argv[1:] == ["table"] else reports(), end="")

@@ -88,6 +88,7 @@ WRONG = {
         "sum.rt signed_sum{234}": [("a row and a column left out", ", {n})", ", {n} - 1)"), ("no column at all", ", {n})", ", 0)")],
         "undoable.rt undoable{234}": [("of the identity", "(m)", "(Matrix{n}::IDENTITY)"), ("of zero", "(m)", "(Matrix{n}::ZERO)")],
         "undoable.rt one_bit": [("yes at zero", "== 1", "<= 1"), ("two bits", "== 1", "== 2")],
+        "undoable.rt magnitude": [("one too few below zero", "as u64) + 1", "as u64) + 0"), ("zero from zero on", "        z as u64", "        0")],
         "cofactors.rt cofactor{234}": [("the range test at another order", "{n}, c, r", "{n} - 1, c, r"), ("column and row exchanged", "c, r)", "Column(r.0), Row(c.0))")],
         "cofactors.rt cofactor_answer": [("another refusal for the place", "Refusal::OutOfRange", "Refusal::NotWhole"), ("another place", "c.0, r.0)", "r.0, c.0)")],
     },

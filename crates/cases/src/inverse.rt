@@ -1,177 +1,70 @@
-// Document 01, module 5: its reference cases, and the case that it marks to be run.
+// Document 01's inverse that is run only, and the way there and back, which is two calls and so no line of the list.
 use crate::count::Count;
-use crate::same::gives_matrix2;
-use crate::same::gives_near3;
-use crate::same::gives_near4;
-use crate::same::refuses_matrix2;
-use crate::same::refuses_matrix3;
-use crate::same::refuses_matrix4;
+use engine::NumberAnswer;
 use matrix::Matrix2;
-use matrix::Matrix3;
+use matrix::Matrix2Answer;
 use matrix::Matrix4;
+use matrix::Matrix4Answer;
+use vector::Vector4;
+
+// A matrix of whole entries to 1024, of sum 2^41.
+const STEEP: [[f64; 4]; 4] = [
+    [593.0, 1022.0, 907.0, 1006.0],
+    [847.0, 1010.0, -911.0, 921.0],
+    [-471.0, 1021.0, 910.0, -994.0],
+    [-766.0, 1008.0, -946.0, -1003.0],
+];
 
 // Every case of this file.
-pub(crate) fn run(count: Count) -> Count {
-    let c = count;
-    let c = regular_of_two(c);
-    let c = singular_of_two(c);
-    let c = edges_of_two(c);
-    let c = of_three(c);
-    let c = of_four(c);
-    c
+pub(crate) fn run(c: Count) -> Count {
+    past_the_limit(underflow(c))
 }
 
-// R1 and R2.
-fn regular_of_two(count: Count) -> Count {
-    let c = count;
-    let c = c.case(
-        b"Matrix2::determinant R1",
-        bits::same(
-            Matrix2::from_array([[3.0, 5.0], [1.0, 2.0]]).determinant(),
-            1.0,
-        ),
-    );
-    let c = c.case(
-        b"Matrix2::invert R1",
-        gives_matrix2(
-            Matrix2::from_array([[3.0, 5.0], [1.0, 2.0]]).invert(),
-            Matrix2::from_array([[2.0, -5.0], [-1.0, 3.0]]),
-        ),
-    );
-    let c = c.case(
-        b"Matrix2::invert R2",
-        gives_matrix2(
-            Matrix2::from_array([[2.0, 0.0], [0.0, 4.0]]).invert(),
-            Matrix2::from_array([[0.5, -0.0], [-0.0, 0.25]]),
-        ),
-    );
-    c
+// The diagonal of 1e-200: the float determinant underflows to 0.
+fn underflow(c: Count) -> Count {
+    let m = Matrix2::new(1.0e-200, 0.0, 0.0, 1.0e-200);
+    let c = c.case(b"determinant of 1e-200", bits::same(m.determinant(), 0.0));
+    c.case(b"inverse of 1e-200 refused", singular(m.invert()))
 }
 
-// R3 and R4.
-fn singular_of_two(count: Count) -> Count {
-    let c = count;
-    let c = c.case(
-        b"Matrix2::invert R3",
-        refuses_matrix2(Matrix2::from_array([[1.0, 2.0], [2.0, 4.0]]).invert(), 2),
-    );
-    let c = c.case(
-        b"Matrix2::determinant R4",
-        bits::same(
-            Matrix2::from_array([[-1.0, 0.0], [0.0, 0.0]]).determinant(),
-            -0.0,
-        ),
-    );
-    let c = c.case(
-        b"Matrix2::invert R4",
-        refuses_matrix2(Matrix2::from_array([[-1.0, 0.0], [0.0, 0.0]]).invert(), 2),
-    );
-    c
+// Whether the inverse was refused with 2.
+fn singular(answer: Matrix2Answer) -> bool {
+    match answer {
+        Matrix2Answer::Given(_) => false,
+        Matrix2Answer::Refused(cause) => cause.number() == 2,
+    }
 }
 
-// R5, and the diagonal of 1e-200, whose determinant underflows.
-fn edges_of_two(count: Count) -> Count {
-    let c = count;
+// At order 4 a vector with entries to 64 comes back, and one with larger entries need not.
+fn past_the_limit(c: Count) -> Count {
+    let m = Matrix4::from_array(STEEP);
     let c = c.case(
-        b"Matrix2::invert R5",
-        gives_matrix2(
-            Matrix2::from_array([[0.0 / 0.0, 0.0], [0.0, 0.0]]).invert(),
-            Matrix2::from_array([[0.0 / 0.0, 0.0 / 0.0], [0.0 / 0.0, 0.0 / 0.0]]),
-        ),
+        b"signed sum of 2^41",
+        gives(engine::signed_sum4(m), 2199023255552),
     );
-    let c = c.case(
-        b"Matrix2::determinant 1e-200",
-        bits::same(
-            Matrix2::from_array([[1.0e-200, 0.0], [0.0, 1.0e-200]]).determinant(),
-            0.0,
-        ),
-    );
-    let c = c.case(
-        b"Matrix2::invert 1e-200",
-        refuses_matrix2(
-            Matrix2::from_array([[1.0e-200, 0.0], [0.0, 1.0e-200]]).invert(),
-            2,
-        ),
-    );
-    c
+    let near = Vector4::new(-64.0, -63.0, 64.0, 61.0);
+    let c = c.case(b"there and back within 64", comes_back(m, near));
+    let far = Vector4::new(-931.0, -941.0, 947.0, 923.0);
+    c.case(b"not back past 64", !comes_back(m, far))
 }
 
-// R6, numerically: the sum with zero turns -0.0 into 0.0.
-fn of_three(count: Count) -> Count {
-    let c = count;
-    let c = c.case(
-        b"Matrix3::determinant R6",
-        bits::same(
-            Matrix3::from_array([
-                [0.0, 1.0, 0.0],
-                [-1.0, 0.0, 0.0],
-                [10.0, 20.0, 1.0],
-            ]).determinant()
-                + 0.0,
-            1.0,
-        ),
-    );
-    let c = c.case(
-        b"Matrix3::invert R6",
-        gives_near3(
-            Matrix3::from_array([[0.0, 1.0, 0.0], [-1.0, 0.0, 0.0], [10.0, 20.0, 1.0]]).invert(),
-            Matrix3::from_array([[0.0, -1.0, 0.0], [1.0, 0.0, 0.0], [-20.0, 10.0, 1.0]]),
-        ),
-    );
-    let c = c.case(
-        b"Matrix3::invert refused",
-        refuses_matrix3(
-            Matrix3::from_array([[1.0, 2.0, 3.0], [4.0, 5.0, 6.0], [7.0, 8.0, 9.0]]).invert(),
-            2,
-        ),
-    );
-    c
+// Whether the engine gives this whole number.
+fn gives(answer: NumberAnswer, expected: i64) -> bool {
+    match answer {
+        NumberAnswer::Given(got) => got == expected,
+        NumberAnswer::Refused(_) => false,
+    }
 }
 
-// R10, numerically.
-fn of_four(count: Count) -> Count {
-    let c = count;
-    let c = c.case(
-        b"Matrix4::determinant R10",
-        bits::same(
-            Matrix4::from_array([
-                [2.0, 0.0, 0.0, 0.0],
-                [0.0, 2.0, 0.0, 0.0],
-                [0.0, 0.0, 2.0, 0.0],
-                [4.0, 6.0, 8.0, 1.0],
-            ]).determinant()
-                + 0.0,
-            8.0,
-        ),
-    );
-    let c = c.case(
-        b"Matrix4::invert R10",
-        gives_near4(
-            Matrix4::from_array([
-                [2.0, 0.0, 0.0, 0.0],
-                [0.0, 2.0, 0.0, 0.0],
-                [0.0, 0.0, 2.0, 0.0],
-                [4.0, 6.0, 8.0, 1.0],
-            ]).invert(),
-            Matrix4::from_array([
-                [0.5, 0.0, 0.0, 0.0],
-                [0.0, 0.5, 0.0, 0.0],
-                [0.0, 0.0, 0.5, 0.0],
-                [-2.0, -3.0, -4.0, 1.0],
-            ]),
-        ),
-    );
-    let c = c.case(
-        b"Matrix4::invert refused",
-        refuses_matrix4(
-            Matrix4::from_array([
-                [1.0, 2.0, 3.0, 4.0],
-                [5.0, 6.0, 7.0, 8.0],
-                [9.0, 10.0, 11.0, 12.0],
-                [13.0, 14.0, 15.0, 16.0],
-            ]).invert(),
-            2,
-        ),
-    );
-    c
+// Whether the vector, moved by the matrix and back by its inverse, is the same vector; not so where there is no inverse.
+fn comes_back(m: Matrix4, v: Vector4) -> bool {
+    match m.invert() {
+        Matrix4Answer::Given(inverse) => same(inverse.mul_vector(m.mul_vector(v)), v),
+        Matrix4Answer::Refused(_) => false,
+    }
+}
+
+// Whether two vectors have the same entries.
+fn same(a: Vector4, b: Vector4) -> bool {
+    bits::same(a.x, b.x) && bits::same(a.y, b.y) && bits::same(a.z, b.z) && bits::same(a.w, b.w)
 }

@@ -1,369 +1,239 @@
-// Document 01, module 8: what is refused, in the order 5, 3, 4, and what is moved, on numbers where every step is exact.
+// Bulk moves: each combination of a right and a wrong order, matrix, input and output. A refusal leaves the output as it was.
+// Every number handed over is 1, so every number that is written is the order.
+ghost use Prim.Native.Nat.{_≤_};
 use crate::count::Count;
 use bulk::Moved;
 use libc::STDOUT_FILENO;
 
+// How many numbers there are to hand over, and how many places in the output: as many as two digits can say.
+const ROOM: usize = 99;
+
 // What stands in the output before.
 const BEFORE: f64 = 77.0;
 
-// Each combination of a right and a wrong order, matrix, input and output:
-// order, numbers of the matrix, of the vectors and of the output, and the refusal, 0 for none.
-const VECTORS: [[usize; 5]; 55] = [
-    [2, 4, 4, 4, 0],
-    [2, 4, 4, 3, 4],
-    [2, 4, 5, 5, 3],
-    [2, 4, 5, 4, 3],
-    [2, 3, 4, 4, 3],
-    [2, 3, 4, 3, 3],
-    [2, 3, 5, 5, 3],
-    [2, 3, 5, 4, 3],
-    [3, 9, 6, 6, 0],
-    [3, 9, 6, 5, 4],
-    [3, 9, 7, 7, 3],
-    [3, 9, 7, 6, 3],
-    [3, 8, 6, 6, 3],
-    [3, 8, 6, 5, 3],
-    [3, 8, 7, 7, 3],
-    [3, 8, 7, 6, 3],
-    [4, 16, 8, 8, 0],
-    [4, 16, 8, 7, 4],
-    [4, 16, 7, 7, 3],
-    [4, 16, 7, 6, 3],
-    [4, 15, 8, 8, 3],
-    [4, 15, 8, 7, 3],
-    [4, 15, 7, 7, 3],
-    [4, 15, 7, 6, 3],
-    [2, 4, 4, 5, 4],
-    [3, 9, 6, 7, 4],
-    [4, 16, 8, 9, 4],
-    [2, 4, 0, 0, 0],
-    [3, 9, 0, 0, 0],
-    [4, 16, 0, 0, 0],
-    [3, 9, 0, 1, 4],
-    [0, 0, 0, 0, 5],
-    [0, 0, 0, 1, 5],
-    [0, 0, 3, 3, 5],
-    [0, 0, 3, 4, 5],
-    [0, 4, 0, 0, 5],
-    [0, 4, 0, 1, 5],
-    [0, 4, 3, 3, 5],
-    [0, 4, 3, 4, 5],
-    [1, 1, 2, 2, 5],
-    [1, 1, 2, 1, 5],
-    [1, 1, 3, 3, 5],
-    [1, 1, 3, 2, 5],
-    [1, 2, 2, 2, 5],
-    [1, 2, 2, 1, 5],
-    [1, 2, 3, 3, 5],
-    [1, 2, 3, 2, 5],
-    [5, 25, 10, 10, 5],
-    [5, 25, 10, 9, 5],
-    [5, 25, 7, 7, 5],
-    [5, 25, 7, 6, 5],
-    [5, 24, 10, 10, 5],
-    [5, 24, 10, 9, 5],
-    [5, 24, 7, 7, 5],
-    [5, 24, 7, 6, 5],
+// A case a row: 0 for vectors or 1 for points, the order, how many numbers the matrix, the vectors and the output have, and
+// the refusal, 0 for none. Document 01's four come first. (As an array of arrays the table takes half a minute to check.)
+const ROWS: [u32; 108] = [
+    0_5_25_10_10_5,
+    0_3_08_06_06_3,
+    0_3_09_06_05_4,
+    0_3_09_00_00_0,
+    0_2_04_04_04_0,
+    0_2_04_04_03_4,
+    0_2_04_05_05_3,
+    0_2_04_05_04_3,
+    0_2_03_04_04_3,
+    0_2_03_04_03_3,
+    0_2_03_05_05_3,
+    0_2_03_05_04_3,
+    0_3_09_06_06_0,
+    0_3_09_07_07_3,
+    0_3_09_07_06_3,
+    0_3_08_06_05_3,
+    0_3_08_07_07_3,
+    0_3_08_07_06_3,
+    0_4_16_08_08_0,
+    0_4_16_08_07_4,
+    0_4_16_07_07_3,
+    0_4_16_07_06_3,
+    0_4_15_08_08_3,
+    0_4_15_08_07_3,
+    0_4_15_07_07_3,
+    0_4_15_07_06_3,
+    0_2_04_04_05_4,
+    0_3_09_06_07_4,
+    0_4_16_08_09_4,
+    0_2_04_00_00_0,
+    0_4_16_00_00_0,
+    0_3_09_00_01_4,
+    0_0_00_00_00_5,
+    0_0_00_00_01_5,
+    0_0_00_03_03_5,
+    0_0_00_03_04_5,
+    0_0_04_00_00_5,
+    0_0_04_00_01_5,
+    0_0_04_03_03_5,
+    0_0_04_03_04_5,
+    0_1_01_02_02_5,
+    0_1_01_02_01_5,
+    0_1_01_03_03_5,
+    0_1_01_03_02_5,
+    0_1_02_02_02_5,
+    0_1_02_02_01_5,
+    0_1_02_03_03_5,
+    0_1_02_03_02_5,
+    0_5_25_10_09_5,
+    0_5_25_07_07_5,
+    0_5_25_07_06_5,
+    0_5_24_10_10_5,
+    0_5_24_10_09_5,
+    0_5_24_07_07_5,
+    0_5_24_07_06_5,
+    1_3_09_04_04_0,
+    1_3_09_04_03_4,
+    1_3_09_05_05_3,
+    1_3_09_05_04_3,
+    1_3_08_04_04_3,
+    1_3_08_04_03_3,
+    1_3_08_05_05_3,
+    1_3_08_05_04_3,
+    1_4_16_06_06_0,
+    1_4_16_06_05_4,
+    1_4_16_07_07_3,
+    1_4_16_07_06_3,
+    1_4_15_06_06_3,
+    1_4_15_06_05_3,
+    1_4_15_07_07_3,
+    1_4_15_07_06_3,
+    1_3_09_04_05_4,
+    1_4_16_06_07_4,
+    1_3_09_00_00_0,
+    1_4_16_00_00_0,
+    1_4_16_00_01_4,
+    1_0_00_00_00_5,
+    1_0_00_00_01_5,
+    1_0_00_03_03_5,
+    1_0_00_03_04_5,
+    1_0_04_00_00_5,
+    1_0_04_00_01_5,
+    1_0_04_03_03_5,
+    1_0_04_03_04_5,
+    1_1_01_02_02_5,
+    1_1_01_02_01_5,
+    1_1_01_03_03_5,
+    1_1_01_03_02_5,
+    1_1_02_02_02_5,
+    1_1_02_02_01_5,
+    1_1_02_03_03_5,
+    1_1_02_03_02_5,
+    1_2_04_02_02_5,
+    1_2_04_02_01_5,
+    1_2_04_03_03_5,
+    1_2_04_03_02_5,
+    1_2_03_02_02_5,
+    1_2_03_02_01_5,
+    1_2_03_03_03_5,
+    1_2_03_03_02_5,
+    1_5_25_08_08_5,
+    1_5_25_08_07_5,
+    1_5_25_07_07_5,
+    1_5_25_07_06_5,
+    1_5_24_08_08_5,
+    1_5_24_08_07_5,
+    1_5_24_07_07_5,
+    1_5_24_07_06_5,
 ];
 
-// The same for points.
-const POINTS: [[usize; 5]; 53] = [
-    [3, 9, 4, 4, 0],
-    [3, 9, 4, 3, 4],
-    [3, 9, 5, 5, 3],
-    [3, 9, 5, 4, 3],
-    [3, 8, 4, 4, 3],
-    [3, 8, 4, 3, 3],
-    [3, 8, 5, 5, 3],
-    [3, 8, 5, 4, 3],
-    [4, 16, 6, 6, 0],
-    [4, 16, 6, 5, 4],
-    [4, 16, 7, 7, 3],
-    [4, 16, 7, 6, 3],
-    [4, 15, 6, 6, 3],
-    [4, 15, 6, 5, 3],
-    [4, 15, 7, 7, 3],
-    [4, 15, 7, 6, 3],
-    [3, 9, 4, 5, 4],
-    [4, 16, 6, 7, 4],
-    [3, 9, 0, 0, 0],
-    [4, 16, 0, 0, 0],
-    [4, 16, 0, 1, 4],
-    [0, 0, 0, 0, 5],
-    [0, 0, 0, 1, 5],
-    [0, 0, 3, 3, 5],
-    [0, 0, 3, 4, 5],
-    [0, 4, 0, 0, 5],
-    [0, 4, 0, 1, 5],
-    [0, 4, 3, 3, 5],
-    [0, 4, 3, 4, 5],
-    [1, 1, 2, 2, 5],
-    [1, 1, 2, 1, 5],
-    [1, 1, 3, 3, 5],
-    [1, 1, 3, 2, 5],
-    [1, 2, 2, 2, 5],
-    [1, 2, 2, 1, 5],
-    [1, 2, 3, 3, 5],
-    [1, 2, 3, 2, 5],
-    [2, 4, 2, 2, 5],
-    [2, 4, 2, 1, 5],
-    [2, 4, 3, 3, 5],
-    [2, 4, 3, 2, 5],
-    [2, 3, 2, 2, 5],
-    [2, 3, 2, 1, 5],
-    [2, 3, 3, 3, 5],
-    [2, 3, 3, 2, 5],
-    [5, 25, 8, 8, 5],
-    [5, 25, 8, 7, 5],
-    [5, 25, 7, 7, 5],
-    [5, 25, 7, 6, 5],
-    [5, 24, 8, 8, 5],
-    [5, 24, 8, 7, 5],
-    [5, 24, 7, 7, 5],
-    [5, 24, 7, 6, 5],
-];
-
-// Every case of this file.
-pub(crate) fn run(count: Count) -> Count {
-    let c = count;
-    let c = named(c);
-    let c = vectors_moved(c);
-    let c = points_moved(c);
-    let c = vectors_combined(c);
-    let c = points_combined(c);
-    c
+// A row's numbers.
+pub struct Row {
+    pub points: u32,
+    pub order: u32,
+    pub matrix: usize,
+    pub input: usize,
+    pub output: usize,
+    pub refusal: u32,
 }
 
-// Whether every number is what stood there before.
-fn untouched(s: &[f64]) -> bool {
-    let mut i: usize = 0;
-    while i < s.len() {
-        if s[i] != BEFORE {
+// Every row.
+pub(crate) fn run(c: Count) -> Count {
+    let mut all = c;
+    for i in 0..108 {
+        all = row_case(all, read(ROWS[i]));
+    }
+    all
+}
+
+// The numbers of a row, of which three have two digits.
+fn read(row: u32) -> Row
+    ensures { λ r. ⌜ (r .matrix ≤ 99) × (r .input ≤ 99) × (r .output ≤ 99) ⌝ }
+{
+    Row {
+        points: digit(row / 100_000_000),
+        order: digit(row / 10_000_000),
+        matrix: digits(row / 100_000),
+        input: digits(row / 1_000),
+        output: digits(row / 10),
+        refusal: digit(row),
+    }
+}
+
+// The last digit.
+fn digit(n: u32) -> u32 {
+    n % 10
+}
+
+// The last two digits.
+fn digits(n: u32) -> usize
+    ensures { λ r. ⌜ r ≤ 99 ⌝ }
+{
+    (n % 100) as usize
+}
+
+// A row's case: its name, the move, and what the move answers and leaves.
+fn row_case(c: Count, row: Row) -> Count
+    requires { ⌜ (row .matrix ≤ 99) × (row .input ≤ 99) × (row .output ≤ 99) ⌝ }
+{
+    title(row);
+    let order = row.order as usize;
+    let matrix = row.matrix;
+    let input = row.input;
+    let output = row.output;
+    let m = [1.0; ROOM];
+    let v = [1.0; ROOM];
+    let mut out = [BEFORE; ROOM];
+    let answer = if row.points == 0 {
+        bulk::move_vectors(order, &m[..matrix], &v[..input], &mut out[..output])
+    } else {
+        bulk::move_points(order, &m[..matrix], &v[..input], &mut out[..output])
+    };
+    c.case(b"", holds(answer, &out, row))
+}
+
+// The name of a row's case.
+fn title(row: Row) {
+    if row.points == 0 {
+        text(b"move_vectors: order ");
+    } else {
+        text(b"move_points: order ");
+    }
+    number(row.order as usize);
+    text(b", matrix of ");
+    number(row.matrix);
+    text(b", ");
+    number(row.input);
+    text(b" in, ");
+    number(row.output);
+    text(b" out, refusal ");
+    number(row.refusal as usize);
+}
+
+// These bytes.
+fn text(bytes: &[u8]) {
+    io::write_all(STDOUT_FILENO, bytes);
+}
+
+// This number.
+fn number(n: usize) {
+    io::print_decimal(STDOUT_FILENO, n as u64);
+}
+
+// Whether a move did what its row says: done, with the order written to the whole output, or refused, with nothing written.
+fn holds(answer: Moved, out: &[f64; ROOM], row: Row) -> bool {
+    match answer {
+        Moved::Done => row.refusal == 0 && leaves(out, row.output, row.order as f64),
+        Moved::Refused(cause) => cause.number() == row.refusal && leaves(out, 0, BEFORE),
+    }
+}
+
+// Whether the first places hold this number, and the rest what stood there before.
+fn leaves(out: &[f64; ROOM], written: usize, number: f64) -> bool {
+    let mut i = 0;
+    while i < ROOM {
+        let expected = if i < written { number } else { BEFORE };
+        if out[i] != expected {
             return false;
         }
         i += 1;
     }
     true
-}
-
-// Whether two slices hold the same numbers.
-fn same_numbers(a: &[f64], b: &[f64]) -> bool {
-    if a.len() != b.len() {
-        return false;
-    }
-    let mut i: usize = 0;
-    while i < a.len() {
-        if !bits::same(a[i], b[i]) {
-            return false;
-        }
-        i += 1;
-    }
-    true
-}
-
-// Done, and these numbers were written.
-fn gives(answer: Moved, output: &[f64], expected: &[f64]) -> bool {
-    match answer {
-        Moved::Done => same_numbers(output, expected),
-        Moved::Refused(_) => false,
-    }
-}
-
-// Refused with this number, and nothing was written; or done, where the number is 0.
-fn answers(answer: Moved, output: &[f64], refusal: usize) -> bool {
-    match answer {
-        Moved::Done => refusal == 0,
-        Moved::Refused(cause) => cause.number() as usize == refusal && untouched(output),
-    }
-}
-
-// The same for a whole array of which a part was lent.
-fn row_answers(answer: Moved, output: &[f64; 11], refusal: usize) -> bool {
-    answers(answer, output, refusal)
-}
-
-// Done, and nothing was written to an array of which a part was lent.
-fn writes_nothing(answer: Moved, output: &[f64; 11]) -> bool {
-    gives(answer, output, &[BEFORE; 11])
-}
-
-// Document 01's four by their names.
-fn named(count: Count) -> Count {
-    let c = count;
-    let m = [1.0; 25];
-    let v = [1.0; 10];
-    let mut out = [BEFORE; 10];
-    let answer = bulk::move_vectors(5, &m, &v, &mut out);
-    let c = c.case(b"Bulk with order 5", answers(answer, &out, 5));
-    let m = [1.0; 8];
-    let v = [1.0; 6];
-    let mut out = [BEFORE; 6];
-    let answer = bulk::move_vectors(3, &m, &v, &mut out);
-    let c = c.case(
-        b"Bulk with a matrix of 8 numbers at order 3",
-        answers(answer, &out, 3),
-    );
-    let m = [1.0; 9];
-    let mut out = [BEFORE; 5];
-    let answer = bulk::move_vectors(3, &m, &v, &mut out);
-    let c = c.case(b"Bulk with output one short", answers(answer, &out, 4));
-    let mut out = [BEFORE; 11];
-    let answer = bulk::move_vectors(3, &m, &v[..0], &mut out[..0]);
-    let c = c.case(b"Bulk with no vectors", writes_nothing(answer, &out));
-    c
-}
-
-// Two vectors of each order.
-fn vectors_moved(count: Count) -> Count {
-    let c = count;
-    let m = [1.0, 2.0, 3.0, 4.0];
-    let v = [5.0, 6.0, 7.0, 8.0];
-    let mut out = [BEFORE; 4];
-    let answer = bulk::move_vectors(2, &m, &v, &mut out);
-    let expected = [23.0, 34.0, 31.0, 46.0];
-    let c = c.case(b"move_vectors of order 2", gives(answer, &out, &expected));
-    let m = [1.0, 2.0, 3.0, 4.0, 5.0, 6.0, 7.0, 8.0, 10.0];
-    let v = [1.0, 2.0, 3.0, 2.0, 0.0, 1.0];
-    let mut out = [BEFORE; 6];
-    let answer = bulk::move_vectors(3, &m, &v, &mut out);
-    let expected = [30.0, 36.0, 45.0, 9.0, 12.0, 16.0];
-    let c = c.case(b"move_vectors of order 3", gives(answer, &out, &expected));
-    let m = [
-        1.0,
-        2.0,
-        3.0,
-        4.0,
-        5.0,
-        6.0,
-        7.0,
-        8.0,
-        9.0,
-        1.0,
-        2.0,
-        3.0,
-        4.0,
-        5.0,
-        6.0,
-        7.0,
-    ];
-    let v = [1.0, 0.0, 2.0, 1.0, 0.0, 1.0, 0.0, 2.0];
-    let mut out = [BEFORE; 8];
-    let answer = bulk::move_vectors(4, &m, &v, &mut out);
-    let expected = [23.0, 9.0, 13.0, 17.0, 13.0, 16.0, 19.0, 22.0];
-    let c = c.case(b"move_vectors of order 4", gives(answer, &out, &expected));
-    c
-}
-
-// Two points of each order; the last coordinates of the answers, which are dropped, are not 1.
-fn points_moved(count: Count) -> Count {
-    let c = count;
-    let m = [1.0, 2.0, 3.0, 4.0, 5.0, 6.0, 7.0, 8.0, 10.0];
-    let p = [1.0, 2.0, 3.0, 0.0];
-    let mut out = [BEFORE; 4];
-    let answer = bulk::move_points(3, &m, &p, &mut out);
-    let expected = [16.0, 20.0, 10.0, 14.0];
-    let c = c.case(b"move_points of order 3", gives(answer, &out, &expected));
-    let m = [
-        1.0,
-        2.0,
-        3.0,
-        4.0,
-        5.0,
-        6.0,
-        7.0,
-        8.0,
-        9.0,
-        1.0,
-        2.0,
-        3.0,
-        4.0,
-        5.0,
-        6.0,
-        7.0,
-    ];
-    let p = [1.0, 0.0, 2.0, 0.0, 1.0, 0.0];
-    let mut out = [BEFORE; 6];
-    let answer = bulk::move_points(4, &m, &p, &mut out);
-    let expected = [23.0, 9.0, 13.0, 9.0, 11.0, 13.0];
-    let c = c.case(b"move_points of order 4", gives(answer, &out, &expected));
-    c
-}
-
-// A row of a table as the name of its case.
-fn title(entry: &[u8], row: [usize; 5]) {
-    io::write_all(STDOUT_FILENO, entry);
-    io::write_all(STDOUT_FILENO, b": order ");
-    io::print_decimal(STDOUT_FILENO, row[0] as u64);
-    io::write_all(STDOUT_FILENO, b", matrix of ");
-    io::print_decimal(STDOUT_FILENO, row[1] as u64);
-    io::write_all(STDOUT_FILENO, b", ");
-    io::print_decimal(STDOUT_FILENO, row[2] as u64);
-    io::write_all(STDOUT_FILENO, b" in, ");
-    io::print_decimal(STDOUT_FILENO, row[3] as u64);
-    io::write_all(STDOUT_FILENO, b" out, refusal ");
-    io::print_decimal(STDOUT_FILENO, row[4] as u64);
-}
-
-// A row for vectors.
-fn vectors_row(count: Count, row: [usize; 5]) -> Count {
-    let order = row[0];
-    let matrix = row[1];
-    let input = row[2];
-    let output = row[3];
-    title(b"move_vectors", row);
-    if matrix > 25 {
-        return count.case(b"", false);
-    }
-    if input > 10 {
-        return count.case(b"", false);
-    }
-    if output > 11 {
-        return count.case(b"", false);
-    }
-    let m = [1.0; 25];
-    let v = [1.0; 10];
-    let mut out = [BEFORE; 11];
-    let answer = bulk::move_vectors(order, &m[..matrix], &v[..input], &mut out[..output]);
-    count.case(b"", row_answers(answer, &out, row[4]))
-}
-
-// A row for points.
-fn points_row(count: Count, row: [usize; 5]) -> Count {
-    let order = row[0];
-    let matrix = row[1];
-    let input = row[2];
-    let output = row[3];
-    title(b"move_points", row);
-    if matrix > 25 {
-        return count.case(b"", false);
-    }
-    if input > 10 {
-        return count.case(b"", false);
-    }
-    if output > 11 {
-        return count.case(b"", false);
-    }
-    let m = [1.0; 25];
-    let v = [1.0; 10];
-    let mut out = [BEFORE; 11];
-    let answer = bulk::move_points(order, &m[..matrix], &v[..input], &mut out[..output]);
-    count.case(b"", row_answers(answer, &out, row[4]))
-}
-
-// Every row for vectors.
-fn vectors_combined(count: Count) -> Count {
-    let mut c = count;
-    for i in 0..55 {
-        c = vectors_row(c, VECTORS[i]);
-    }
-    c
-}
-
-// Every row for points.
-fn points_combined(count: Count) -> Count {
-    let mut c = count;
-    for i in 0..53 {
-        c = points_row(c, POINTS[i]);
-    }
-    c
 }

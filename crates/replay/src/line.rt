@@ -11,6 +11,7 @@ use crate::list::expected;
 use crate::list::head;
 use crate::list::words;
 use crate::moves;
+use crate::outcome::Outcome;
 use crate::places;
 use crate::rotations;
 use crate::table::ADD;
@@ -35,14 +36,6 @@ use crate::table::reads;
 use crate::vectors;
 use crate::whole;
 use crate::words::ROOM;
-
-// What a line comes to: its operation and order, and whether the two answers are the same.
-pub enum Outcome {
-    Same(usize, usize),
-    Different(usize, usize),
-    NotRead,
-    NotKnown,
-}
 
 // What the line comes to.
 pub(crate) fn replayed(line: &[u8]) -> Outcome {

@@ -7,6 +7,7 @@ mod inverse;
 mod line;
 mod list;
 mod moves;
+mod outcome;
 mod places;
 mod report;
 mod rotations;

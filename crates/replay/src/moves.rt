@@ -2,10 +2,10 @@
 // The whole room of the output is compared, so that what a move leaves untouched is compared too.
 ghost use Prim.Native.Nat.{_≤_};
 ghost use lib.ListN.{length};
-use crate::line::Outcome;
 use crate::list::Beginning;
 use crate::list::next_word;
 use crate::list::sign_at;
+use crate::outcome::Outcome;
 use crate::table::MOVE_VECTORS;
 use bulk::Moved;
 

@@ -1,6 +1,6 @@
 // Counts what the lines come to.
 ghost use Prim.Native.Nat.{_<_};
-use crate::line::Outcome;
+use crate::outcome::Outcome;
 use crate::table::COUNT;
 use crate::table::PLANTED;
 
