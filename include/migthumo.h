@@ -64,12 +64,12 @@ typedef struct migthumo_matrix4 {
 
 /* ---- moves of many: the output is as long as what is moved; of none, nothing is written */
 
-/* Every vector times the matrix. The vectors' length is a multiple of the order. Answers 0, 3, 4 or 5. */
+/* The matrix times every vector. The vectors' length is a multiple of the order. Answers 0, 3, 4 or 5. */
 uint32_t migthumo_move_vectors(size_t order, const double *m, size_t m_length,
                                const double *vectors, size_t vectors_length,
                                double *out, size_t out_length);
 
-/* Every point, extended by 1, times the matrix, without its last coordinate: orders 3 and 4. A point is order - 1
+/* The matrix times every point extended by 1, without the last coordinate: orders 3 and 4. A point is order - 1
    numbers, and the points' length a multiple of that. Answers 0, 3, 4 or 5. */
 uint32_t migthumo_move_points(size_t order, const double *m, size_t m_length,
                               const double *points, size_t points_length,

@@ -193,7 +193,7 @@ pub(crate) fn numbers_mut<T: Record>(record: &mut T) -> &mut [f64] {
 
 // ---- the functions
 
-/// Every vector times the matrix. The output is as long as the vectors, a multiple of the order.
+/// The matrix times every vector. The output is as long as the vectors, a multiple of the order.
 ///
 /// ```
 /// use migthumo::ffi;
@@ -212,7 +212,7 @@ pub fn move_vectors(order: usize, m: &[f64], vectors: &[f64], out: &mut [f64]) -
     })
 }
 
-/// Every point, extended by 1, times the matrix, without its last coordinate: orders 3 and 4, points one number shorter.
+/// The matrix times every point extended by 1, without the last coordinate: orders 3 and 4, points one number shorter.
 ///
 /// ```
 /// use migthumo::ffi;

@@ -195,7 +195,7 @@ macro_rules! square {
                 Ok(out[0] == 1)
             }
 
-            /// Every vector times the matrix, over numbers in a row: those of the vectors, one vector after the other.
+            /// The matrix times every vector, over numbers in a row: those of the vectors, one vector after the other.
             ///
             /// [`Refusal::InputLength`] unless their count is a multiple of the order, [`Refusal::OutputLength`] unless
             /// the output has as many. The flat views of vectors hand over slices of vectors.
@@ -383,7 +383,7 @@ macro_rules! space {
                 given(|out| ffi::from_axis_angle(Self::ORDER, x, y, z, sine, cosine, out))
             }
 
-            /// Every point, extended by 1, times the matrix, without its last coordinate, over numbers in a row.
+            /// The matrix times every point extended by 1, without the last coordinate, over numbers in a row.
             ///
             /// A point is one number shorter than the order. [`Refusal::InputLength`] unless the count of numbers is a
             /// multiple of that, [`Refusal::OutputLength`] unless the output has as many.
