@@ -63,7 +63,7 @@ impl<F: Fn(&[f64], &[f64]) -> Vec<f64>> Bulk<F> {
         }
     }
 
-    /// The refusal by document 01's table: 5, then 3, then 4.
+    /// The refusal by document 01, 'The numbers a refusal carries': 5, then 3, then 4.
     fn refusal(&self, handed: Handed) -> Option<u64> {
         let Handed { order, matrix, input, output } = handed;
         if !(2 + self.short..=4).contains(&order) {

@@ -1,5 +1,6 @@
 //! The exported functions over flat slices with the order as a number, where they refuse an order or a length:
-//! refusals 5, 3 and 4 by document 01's table, also where a later one would apply, and nothing written.
+//! refusals 5, 3 and 4 by document 01, 'The numbers a refusal carries', also where a later one would apply, and
+//! nothing written.
 
 use crate::cases::Case;
 use crate::classes::{numbers, CLASSES};
@@ -142,7 +143,7 @@ impl Flat {
         (self.2 < 1 || x.a == square) && second
     }
 
-    /// The refusal by document 01's table: 5, then 3, then 4.
+    /// The refusal by document 01, 'The numbers a refusal carries': 5, then 3, then 4.
     fn refusal(&self, x: Lengths) -> Option<u64> {
         if !self.takes(x.order, x.to) {
             Some(5)

@@ -156,7 +156,8 @@ impl Run {
         );
     }
 
-    /// Two rows of a bulk move: lengths that fit held to cgmath, and any lengths held to document 01's refusals too.
+    /// Two rows of a bulk move: lengths that fit held to cgmath, and any lengths held to the refusals of document 01,
+    /// 'The numbers a refusal carries', too.
     pub fn moves(
         &mut self,
         name: &'static str,
@@ -192,7 +193,7 @@ pub fn each(order: usize, length: usize, x: &[f64], one: impl Fn(&[f64], &[f64])
     flat.chunks(length).flat_map(|vector| one(m, vector)).collect()
 }
 
-/// The refusal of lengths that don't fit, by document 01's table.
+/// The refusal of lengths that don't fit, by document 01, 'The numbers a refusal carries'.
 pub fn fitting(order: usize, length: usize, case: &Case) -> Option<Answer> {
     let input = case.numbers.len() - order * order;
     if input % length != 0 {

@@ -1,4 +1,4 @@
-// Bulk moves over lent slices: document 01, module 8.
+// Bulk moves over lent slices: document 01, 'Modules, leaves first', 8.
 // Every outcome of the two entries, and the whole output, equals its definition in specs/; neither relies on its caller.
 mod load;
 mod points;

@@ -1,4 +1,4 @@
--- Document 01: a swap with equal numbers below the order changes nothing, and one with equal numbers not below it is refused.
+-- Document 01, 'Rules of the arithmetic': a swap with equal numbers below the order changes nothing, and one with equal numbers not below it is refused.
 -- Both at once: the outcome is the matrix after the check of that one number. Assumes nothing.
 use mathlib.Core.Path.{_≡_, refl, sym, ap, ap₂, _∙_}
 use mathlib.Core.List.{List, [], _∷_, map}

@@ -1,4 +1,4 @@
--- Document 01, module 4: sums, scalar forms and products.
+-- Document 01, 'Modules, leaves first', 4, and 'Rules of the arithmetic': sums, scalar forms and products.
 -- Entry by entry operations stand over one map and one zip for each record. Assumes nothing.
 use lib.Ieee.{Float, neg}
 use Rattle.vector.specs.Arithmetic.{_⊕_, _⊖_, _⊗_, _⊘_}
@@ -107,7 +107,7 @@ combine4 m v =
 abbrev pub mul4 : Matrix4 → Matrix4 → Matrix4
 mul4 a b = matrix4 (combine4 a (b .x)) (combine4 a (b .y)) (combine4 a (b .z)) (combine4 a (b .w))
 
--- ---- beyond document 01's list: in the text, one operation for each entry
+-- ---- beyond the list of document 01, 'What is taken': in the text, one operation for each entry
 
 -- every sign turned
 abbrev pub neg2 : Matrix2 → Matrix2

@@ -1,4 +1,4 @@
--- Document 01, module 3: order 4 swaps of a matrix that is lent. What their answer means as an outcome.
+-- Document 01, 'Modules, leaves first', 3, and 'Rules of the arithmetic': order 4 swaps of a matrix that is lent. What their answer means as an outcome.
 -- Assumes nothing.
 use Rattle.vector.specs.Refusals.{Outcome, given, refusedFor}
 use Rattle.matrix.specs.declared.in_place.Swapped.{Swapped}

@@ -1,4 +1,4 @@
--- Document 01, module 5: determinants and inverses, term by term as the document and the text write them.
+-- Document 01, 'Modules, leaves first', 5, and 'Rules of the arithmetic': determinants and inverses, term by term as the document and the text write them.
 -- Orders 2 and 3 divide by the determinant, order 4 multiplies by one reciprocal.
 -- The fields x, y, z, w of a matrix are its columns 0 to 3, those of a column its rows 0 to 3: `m .y .x` is the document's m[1][0]. Assumes nothing.
 use Prim.Native.Nat.{ℕ, _+_, _%_}

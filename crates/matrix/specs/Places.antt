@@ -1,4 +1,4 @@
--- Document 01, module 3: row, diagonal, transpose and the swaps. Entries are carried untouched.
+-- Document 01, 'Modules, leaves first', 3, and 'Rules of the arithmetic': row, diagonal, transpose and the swaps. Entries are carried untouched.
 -- The range tests and the swaps are said once, whatever the order. A comment holds for the orders below it. Assumes nothing.
 use Prim.Native.Nat.{ℕ}
 use mathlib.Core.List.{List, [], map}

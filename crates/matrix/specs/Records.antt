@@ -1,4 +1,4 @@
--- Document 01, module 2: the matrix records, their arrays, the builders and the embeddings, column by column.
+-- Document 01, 'Modules, leaves first', 2, and 'What is taken': the matrix records, their arrays, the builders and the embeddings, column by column.
 -- Every number stands where the document and the text put it; nothing is computed here. A comment holds for the orders below it. Assumes nothing.
 use Prim.Native.Nat.{ℕ}
 use mathlib.Core.List.{List, [], _∷_}

@@ -1,4 +1,4 @@
--- Document 01, module 6: rotations, the sine s and the cosine c handed in and not checked against each other.
+-- Document 01, 'Modules, leaves first', 6, and 'Rules of the arithmetic': rotations, the sine s and the cosine c handed in and not checked against each other.
 -- An order 4 rotation is the order 3 one in the corner of the identity, as the text writes it out. Assumes nothing.
 use lib.Ieee.{Float, neg}
 use Rattle.vector.specs.Arithmetic.{_⊕_, _⊖_, _⊗_, float0, float1}

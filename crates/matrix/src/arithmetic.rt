@@ -1,4 +1,4 @@
-// Sums, scalar forms and products: document 01, module 4.
+// Sums, scalar forms and products: document 01, 'Modules, leaves first', 4.
 ghost use mathlib.Core.Path.{_≡_};
 ghost use Rattle.matrix.specs.Arithmetic.{add2, add3, add4, sub2, sub3, sub4};
 ghost use Rattle.matrix.specs.Arithmetic.{scalarMul2, scalarMul3, scalarMul4, scalarDiv2, scalarDiv3, scalarDiv4};

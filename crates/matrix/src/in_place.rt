@@ -1,4 +1,4 @@
-// Order 4 swaps of a matrix that is lent: document 01, module 3.
+// Order 4 swaps of a matrix that is lent: document 01, 'Modules, leaves first', 3.
 // Each calls the swap by value and stores what it gives; a refusal leaves the matrix as it was.
 ghost use mathlib.Core.Path.{_≡_};
 ghost use Rattle.vector.specs.Refusals.{done, leaves};

@@ -1,4 +1,4 @@
-// Determinants and inverses: document 01, module 5.
+// Determinants and inverses: document 01, 'Modules, leaves first', 5.
 ghost use mathlib.Core.Path.{_≡_};
 ghost use Prim.Native.Nat.{_<_};
 ghost use Rattle.vector.specs.Arithmetic.{_⊕_, _⊖_, _⊗_};

@@ -1,4 +1,4 @@
-// Matrices of order 2, 3 and 4 over f64, column by column: document 01, modules 2 to 6.
+// Matrices of order 2, 3 and 4 over f64, column by column: document 01, 'Modules, leaves first', 2 to 6.
 // Each answer equals its definition in specs/; no public function relies on its caller.
 pub mod arithmetic;
 pub mod in_place;

@@ -1,4 +1,4 @@
-// Row, diagonal, transpose and the swaps by value: document 01, module 3.
+// Row, diagonal, transpose and the swaps by value: document 01, 'Modules, leaves first', 3.
 ghost use mathlib.Core.Path.{_≡_};
 ghost use Prim.Native.Nat.{_<_};
 ghost use lib.Ieee.{nan};

@@ -1,4 +1,4 @@
-// The matrix records, their constants, arrays, builders and embeddings: document 01, module 2.
+// The matrix records, their constants, arrays, builders and embeddings: document 01, 'Modules, leaves first', 2.
 ghost use mathlib.Core.Path.{_≡_};
 ghost use Rattle.matrix.specs.Records.{order2, order3, order4};
 ghost use Rattle.matrix.specs.Records.{new2, new3, new4, matrix2, matrix3, matrix4};

@@ -1,4 +1,4 @@
-// Rotations with the sine s and the cosine c handed in: document 01, module 6.
+// Rotations with the sine s and the cosine c handed in: document 01, 'Modules, leaves first', 6.
 ghost use mathlib.Core.Path.{_≡_};
 ghost use Rattle.matrix.specs.Rotations.{fromAngle2, fromAngleX3, fromAngleY3, fromAngleZ3, fromAxisAngle3};
 ghost use Rattle.matrix.specs.Rotations.{fromAngleX4, fromAngleY4, fromAngleZ4, fromAxisAngle4};

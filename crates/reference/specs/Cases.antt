@@ -1,4 +1,4 @@
--- What a reference case of document 01 claims: the operation, at the inputs, has the expected outcome.
+-- Document 01, 'Reference cases, both sides of each edge': what a case claims, namely that the operation, at the inputs, has the expected outcome.
 -- Matrices and vectors are columns of numbers, as the document writes them in brackets. Assumes nothing.
 use Prim.Native.Nat.{ℕ}
 use mathlib.Core.Path.{_≡_}
@@ -34,7 +34,7 @@ pub data Expected : Type 0 where
   exactly numerically : Columns → Expected
   refusal : ℕ → Expected
 
--- a case: its number in document 01, for the reader; the operation with its inputs; the expected outcome
+-- a case: its number there, R1 to R12, for the reader; the operation with its inputs; the expected outcome
 pub record Case : Type 0 where
   pub label : ℕ
   pub operation : Operation

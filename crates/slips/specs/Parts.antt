@@ -1,4 +1,4 @@
--- What it means that a slip is caught: the wrong definition parts from the right one at an input that is named. And the matrices of document 01's reference cases.
+-- What it means that a slip is caught: the wrong definition parts from the right one at an input that is named. And the matrices of document 01, 'Reference cases, both sides of each edge'.
 -- Assumes nothing.
 use mathlib.Core.Path.{_≡_}
 use Rattle.matrix.specs.Records.{ofArray2, ofArray3, ofArray4}
@@ -19,7 +19,7 @@ NoConstant {A} {B} right = (constant : B) → ¬ ((input : A) → right input �
 abbrev pub CannotPass : Type 1
 CannotPass = (A B : Type 0) (right wrong program : A → B) (input : A) → Parts right wrong input → ((a : A) → program a ≡ wrong a) → ¬ ((a : A) → program a ≡ right a)
 
--- ---- the matrices of document 01's reference cases
+-- ---- the matrices of document 01, 'Reference cases, both sides of each edge'
 
 abbrev pub r1 : Matrix2
 r1 = ofArray2 m1

@@ -1,4 +1,4 @@
--- Document 01, module 1: vectors of two, three and four numbers.
+-- Document 01, 'Modules, leaves first', 1, and 'Rules of the arithmetic': vectors of two, three and four numbers.
 -- Each operation as the document writes it, over one map and one zip for each length. A comment holds for the lengths below it. Assumes nothing.
 use Prim.Native.Nat.{ℕ, suc}
 use mathlib.Core.List.{List, [], _∷_, _++_}

@@ -1,4 +1,4 @@
-// Vectors of two, three and four f64: document 01, module 1.
+// Vectors of two, three and four f64: document 01, 'Modules, leaves first', 1.
 // Each answer equals its definition in specs/; no function relies on its caller.
 pub mod refusal;
 

@@ -19,7 +19,7 @@ pub enum Refusal {
 }
 
 impl Refusal {
-    // Document 01's number of this cause.
+    // The number of this cause: document 01, 'The numbers a refusal carries'.
     pub fn number(self) -> u32
         ensures { λ r. ⌜ r ≡ number self ⌝ }
     {
