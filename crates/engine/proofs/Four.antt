@@ -94,7 +94,7 @@ written = record {
 pub at-order4 : AtOrder4
 at-order4 = demand port4 1024 largest 64 sum4 combine4 dot4 written
 
--- ---- document 01's figures, "Why the limits hold"
+-- ---- document 01, 'The exact engine': the figures of "Why the limits hold"
 
 -- "no partial sum passes 24·2^40": every step of the determinant (the formula sum4 computed in floats is det4) is a whole number within that.
 -- That no partial sum of the engine's own loop passes it is `partial-le` of Table.antt

@@ -32,10 +32,11 @@ use Rattle.exact.proofs.Reading.{inFloat, places, weight}
 use Rattle.exact.proofs.Steps.{EachStep, steps-within}
 use Rattle.engine.specs.Whole.{wholeNumber, wholeEntries, numbers}
 use Rattle.engine.specs.Engine.{taken, oneBit}
-use Rattle.engine.specs.Demand.{Port, WholeEntries, sumOf, PowerOfTwo, SameVector, WholeVector, RefusedElsewhere, DeterminantIsSum, RefusedExactly, Undoes, InverseUndoes, UndoableExactly, ZeroExactly, Demand}
+use Rattle.engine.specs.Demand.{Port, WholeEntries, sumOf, PowerOfTwo, SameVector, WholeVector, RefusedElsewhere, DeterminantIsSum, RefusedExactly, Undoes, ExactInverse, InverseUndoes, InverseIsExact, UndoableExactly, HasExactInverse, ZeroExactly, Demand}
 use Rattle.engine.proofs.Taken.{whole-entries}
 use Rattle.engine.proofs.Outcomes.{taken-yes}
 use Rattle.engine.proofs.Bits.{one-bit}
+use Rattle.engine.proofs.Fractions.{adjugate-cofactor, fraction}
 use Rattle.engine.proofs.Readings.{Holds, column-wise, beside, entry-test, over-sum, entry-steps, dot-steps}
 use Rattle.engine.proofs.Undoing as undoing
 use Rattle.engine.proofs.Undoing.{Passes}
@@ -147,6 +148,10 @@ module _ (p : Port) (B D E : ℕ) (d F G : Formula) (w : Written p B D E d F G) 
     x-known : (c r : ℕ) → c < n → r < n → Known (p .entries x c r) (X c r) (q .0) D
     x-known = w .inverse-known m M (held m whole) (q .0) (q .1) (p .determinant m) (known-sum m whole)
 
+    -- so they are the cofactors over the sum
+    x-exact : ExactInverse p M x
+    x-exact c r h l = fraction (q .1) (x-known c r h l .exact) (adjugate-cofactor n (w .some) M c r)
+
     -- a whole vector
     module _ (v : p .Vector) (whole-vector : WholeVector p E v) where
       -- its whole numbers
@@ -222,6 +227,14 @@ module _ (p : Port) (B D E : ℕ) (d F G : Formula) (w : Written p B D E d F G) 
   inverse-undoes : InverseUndoes p B E
   inverse-undoes m whole q = (x m whole q, inverted m whole q, undoes m whole q)
 
+  -- that inverse is exact
+  inverse-is-exact : InverseIsExact p B
+  inverse-is-exact m whole q = (x m whole q, inverted m whole q, x-exact m whole q)
+
+  -- both at once
+  has-exact-inverse : (m : p .Matrix) → WholeEntries p B m → PowerOfTwo (sumOf p m) → HasExactInverse p E (numbers (p .entries m)) m
+  has-exact-inverse m whole q = (x m whole q, inverted m whole q, undoes m whole q, x-exact m whole q)
+
   -- 5
   zero-exactly : ZeroExactly p B
   zero-exactly m whole = whole-singular.singular n (numbers (p .entries m))
@@ -263,11 +276,13 @@ demand p B D E d F G w = record {
   determinant-is-sum = determinant-is-sum p B D E d F G w;
   refused-exactly = refused-exactly p B D E d F G w;
   inverse-undoes = inverse-undoes p B D E d F G w;
+  inverse-is-exact = inverse-is-exact p B D E d F G w;
   sum-agrees = λ m whole. let known = known-sum p B D E d F G w m whole in (
     sumOf p m,
     ap (λ (o : Outcome Unit). after o (given (sumOf p m))) (taken-yes B (p .order) (p .entries m) (passes-true (wholeEntries B (p .order) (p .entries m)) whole)),
     same-value (exact-integer binary64 (sumOf p m) (lt-of-le-of-lt (known .within) (w .sum-small))) (known .exact),
   );
   undoable-exactly = undoable-exactly p B;
+  where-undoable = λ m says. let is = undoable-exactly p B m .0 says in has-exact-inverse p B D E d F G w m (is .0) (is .1);
   zero-exactly = zero-exactly p B D E d F G w;
 }

@@ -13,6 +13,7 @@ pub mod Readings
 pub mod Undoing
 pub mod Formulas
 pub mod General
+pub mod Numbers
 pub mod Two
 pub mod Three
 pub mod Four

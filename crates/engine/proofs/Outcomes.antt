@@ -158,12 +158,16 @@ placed-same n c r p q v w same values = by-column (columnBelow n c) (λ e. passe
     by-column (given u) below = by-row (rowBelow n r) (λ e. passes n (r .0) e) (below refl)
     by-column (refused k) below = refl
 
+-- matrices that are alike below the order have the same cofactors
+pub cofactor-ext : (n : ℕ) → 0 < n → (m w : Matrix) → ((c r : ℕ) → c < n → r < n → m c r ≡ w c r) → (c r : ℕ) → c < n → r < n → cofactorOf n m c r ≡ cofactorOf n w c r
+cofactor-ext n some m w same c r h l =
+    ap (λ (z : ℤ). parity c *ℤ parity r *ℤ z)
+    (signed-sum-ext (n - 1) (λ i s. m (skip c i) (skip r s)) (λ i s. w (skip c i) (skip r s))
+    (λ i s a b. same (skip c i) (skip r s) (lt-of-lt-of-le (suc-le-suc (skip-le (n - 1) c i (omega arith) a)) (omega arith)) (lt-of-lt-of-le (suc-le-suc (skip-le (n - 1) r s (omega arith) b)) (omega arith))))
+
 -- so a cofactor is the matrix's
 pub corner-cofactor : (n : ℕ) (e d : Floats) (c r : ℕ) → 0 < n → Alike n e d → c < n → r < n → cofactorOf n (numbers e) c r ≡ cofactorOf n (numbers d) c r
-corner-cofactor n e d c r some same h l =
-    ap (λ (z : ℤ). parity c *ℤ parity r *ℤ z)
-    (signed-sum-ext (n - 1) (λ i s. numbers e (skip c i) (skip r s)) (λ i s. numbers d (skip c i) (skip r s))
-    (λ i s a b. ap wholeNumber (same (skip c i) (skip r s) (lt-of-lt-of-le (suc-le-suc (skip-le (n - 1) c i (omega arith) a)) (omega arith)) (lt-of-lt-of-le (suc-le-suc (skip-le (n - 1) r s (omega arith) b)) (omega arith)))))
+corner-cofactor n e d c r some same = cofactor-ext n some (numbers e) (numbers d) (λ i s a b. ap wholeNumber (same i s a b)) c r
 
 -- the cofactor among the first n columns and rows of a matrix of order 4
 abbrev placed : ℕ → Column → Row → Matrix4 → Outcome ℤ

@@ -6,7 +6,7 @@ use mathlib.Core.Logic.{_↔_}
 use mathlib.Core.Bool.{true}
 use Prim.Native.Nat.{ℕ, _^_, _<_}
 use lib.Dec.{T}
-use lib.IntN.{ℤ, pos, natAbs}
+use lib.IntN.{ℤ, pos, natAbs, _*ℤ_}
 use lib.Ieee.{Float, binary64, ofInt}
 use Rattle.vector.specs.Refusals.{Outcome, given, refused}
 use Rattle.vector.specs.Vectors.{entry, entries2, entries3, entries4}
@@ -19,11 +19,12 @@ use Rattle.matrix.specs.Inverse.{det2, det3, det4, invert2, invert3, invert4}
 use Rattle.matrix.specs.declared.records.Matrix2.{Matrix2}
 use Rattle.matrix.specs.declared.records.Matrix3.{Matrix3}
 use Rattle.matrix.specs.declared.records.Matrix4.{Matrix4}
+use Rattle.whole.specs.Matrix.{Matrix}
 use Rattle.whole.specs.Order.{signed-sum}
 use Rattle.whole.specs.Claim.{ZeroExactlyIf}
 use Rattle.exact.specs.Value.{Exact, Whole, Equal}
 use Rattle.engine.specs.Whole.{Floats, wholeEntries, AllWhole, numbers, floats2, floats3, floats4}
-use Rattle.engine.specs.Engine.{signedSum, undoable}
+use Rattle.engine.specs.Engine.{signedSum, undoable, cofactorOf}
 
 -- ---- what is handed in: the definitions of one order
 
@@ -111,6 +112,18 @@ SameVector p u v = (i : ℕ) → i < p .order → Equal (p .places u i) (p .plac
 abbrev pub WholeVector : (p : Port) → ℕ → p .Vector → Type 0
 WholeVector p limit v = (i : ℕ) → i < p .order → Whole limit (p .places v i)
 
+-- `ExactFraction x a b`: x is finite and its exact value is the fraction a / b. That is, b is not zero, the value of x is z / 2 ^ k, and z / 2 ^ k = a / b, multiplied across
+pub record ExactFraction (x : Float) (a b : ℤ) : Type 0 where
+  pub z : ℤ
+  pub k : ℕ
+  pub exact : Exact x z k
+  pub divisor : 0 < natAbs b
+  pub across : z *ℤ b ≡ a *ℤ pos (2 ^ k)
+
+-- i is the exact inverse of the whole matrix w: each of its entries is a cofactor of w over the signed sum, columns and rows exchanged. That these cofactors times w are the sum times the identity, either way round, is `cofactors-over-sum` of proofs/Fractions.antt
+abbrev pub ExactInverse : (p : Port) → Matrix → p .Matrix → Type 0
+ExactInverse p w i = (c r : ℕ) → c < p .order → r < p .order → ExactFraction (p .entries i c r) (cofactorOf (p .order) w r c) (signed-sum (p .order) w)
+
 -- ---- the demand, for entries and vectors up to their limits
 
 -- 0. the words' meaning: each entry's exact value is a whole number of magnitude at most the limit, -0.0 being 0
@@ -143,12 +156,24 @@ pub record Undoes (p : Port) (vectors : ℕ) (m i : p .Matrix) : Type 0 where
 abbrev pub InverseUndoes : Port → ℕ → ℕ → Type 0
 InverseUndoes p limit vectors = (m : p .Matrix) → WholeEntries p limit m → PowerOfTwo (sumOf p m) → (i : p .Matrix) × (p .invert m ≡ given i) × Undoes p vectors m i
 
+-- beside the demand's text: there the inverse is exact, each of its entries being a cofactor over the sum with no rounding
+abbrev pub InverseIsExact : Port → ℕ → Type 0
+InverseIsExact p limit = (m : p .Matrix) → WholeEntries p limit m → PowerOfTwo (sumOf p m) → (i : p .Matrix) × (p .invert m ≡ given i) × ExactInverse p (numbers (p .entries m)) i
+
+-- both at once: m has an inverse, which undoes it and is the exact inverse of w
+abbrev pub HasExactInverse : (p : Port) → ℕ → Matrix → p .Matrix → Type 0
+HasExactInverse p vectors w m = (i : p .Matrix) × (p .invert m ≡ given i) × Undoes p vectors m i × ExactInverse p w i
+
 -- 4. the engine's sum agrees with the determinant numerically, and `undoable` says yes exactly where 3 applies
 abbrev pub SumAgrees : Port → ℕ → Type 0
 SumAgrees p limit = (m : p .Matrix) → WholeEntries p limit m → (s : ℤ) × (signedSum limit (p .order) (p .entries m) ≡ given s) × Equal (ofInt binary64 s) (p .determinant m)
 
 abbrev pub UndoableExactly : Port → ℕ → Type 0
 UndoableExactly p limit = (m : p .Matrix) → (undoable limit (p .order) (p .entries m) ≡ given true) ↔ (WholeEntries p limit m × PowerOfTwo (sumOf p m))
+
+-- so a yes of `undoable` entitles to all of 3
+abbrev pub WhereUndoable : Port → ℕ → ℕ → Type 0
+WhereUndoable p limit vectors = (m : p .Matrix) → undoable limit (p .order) (p .entries m) ≡ given true → HasExactInverse p vectors (numbers (p .entries m)) m
 
 -- 5. the sum is zero exactly if no whole A and no nonzero k have M·A = k·identity, M being the matrix's own whole entries
 abbrev pub ZeroExactly : Port → ℕ → Type 0
@@ -162,8 +187,10 @@ pub record Demand (p : Port) (limit vectors : ℕ) : Type 0 where
   pub determinant-is-sum : DeterminantIsSum p limit
   pub refused-exactly : RefusedExactly p limit
   pub inverse-undoes : InverseUndoes p limit vectors
+  pub inverse-is-exact : InverseIsExact p limit
   pub sum-agrees : SumAgrees p limit
   pub undoable-exactly : UndoableExactly p limit
+  pub where-undoable : WhereUndoable p limit vectors
   pub zero-exactly : ZeroExactly p limit
 
 -- "whole entries of magnitude at most 1024"; vectors with "entries up to 32768 for orders 2 and 3, up to 64 for order 4"

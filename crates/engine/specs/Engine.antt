@@ -1,5 +1,5 @@
--- Document 01, module 7: what the exact engine answers, said once over the order.
--- Each outcome is refusal 6, or the number, or the yes or no; a cofactor, which document 01 does not list, also has refusal 1 for its place. Assumes nothing.
+-- Document 01, 'The exact engine': what the exact engine answers, said once over the order.
+-- Each outcome is refusal 6, or the number, or the yes or no; a cofactor is beyond that paper, and also has refusal 1 for its place. Assumes nothing.
 use mathlib.Core.Path.{_≡_}
 use mathlib.Core.Logic.{_↔_}
 use mathlib.Core.Bool.{Bool, cond}

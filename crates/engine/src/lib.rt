@@ -1,4 +1,4 @@
-// The exact engine over whole numbers: document 01, module 7.
+// The exact engine over whole numbers: document 01, 'Modules, leaves first', 7.
 // Each answer equals its definition in specs/; no public function relies on its caller.
 pub mod answers;
 pub mod cofactors;
