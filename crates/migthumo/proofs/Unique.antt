@@ -2,7 +2,7 @@
 -- Assumes nothing.
 use mathlib.Core.Path.{refl, sym, _∙_}
 use Rattle.vector.specs.Refusals.{Outcome}
-use Rattle.vector.proofs.Decided.{DecidedLent, DecidedClauses}
+use Rattle.vector.proofs.Decided.{Decided, DecidedLent, DecidedClauses, value}
 use Rattle.migthumo.specs.Entries.{Answers}
 use Rattle.migthumo.proofs.arithmetic
 use Rattle.migthumo.proofs.exact
@@ -12,6 +12,7 @@ use Rattle.migthumo.proofs.moves
 use Rattle.migthumo.proofs.places
 use Rattle.migthumo.proofs.records
 use Rattle.migthumo.proofs.rotations
+use Rattle.migthumo.proofs.version
 
 -- the form of every promise here: the number answered and what is left, as one outcome
 pub answers : {K : Type 0} {A S : K → Type 0} {B : Type 0} {entry : (κ : K) → A κ → B} {lent : (κ : K) → S κ → B} {outcome : (κ : K) → A κ → Outcome B}
@@ -120,3 +121,8 @@ migthumo-from-angle-z = answers
 
 pub migthumo-from-axis-angle : DecidedLent rotations.migthumo_from_axis_angle.Reads.Learnt (λ κ s. s .1 .1 .1 .1 .1 .1 .0 .now)
 migthumo-from-axis-angle = answers
+
+-- ---- version.rt
+
+pub migthumo-version : Decided version.migthumo_version.Reads.Learnt
+migthumo-version = value

@@ -1,4 +1,4 @@
--- Document 01 at the boundary: the outcome of each entry, by the port's own definitions at order 2, 3 and 4.
+-- Document 01, 'Modules, leaves first', 2 to 8, at the boundary: the outcome of each entry, by the port's own definitions at order 2, 3 and 4.
 -- Every matrix is the flat list of its columns; `out` is how many numbers the output holds. Assumes nothing.
 use Prim.Native.Nat.{ℕ}
 use mathlib.Core.List.{List, [], _∷_}
@@ -89,7 +89,7 @@ abbrev pub divide : ℕ → Float → List Float → ℕ → Outcome (List Float
 divide order s m out =
     matrixOf order m out (λ x. given (arithmetic.scalarDiv2 s x)) (λ x. given (arithmetic.scalarDiv3 s x)) (λ x. given (arithmetic.scalarDiv4 s x))
 
--- beyond document 01's list, as in `matrix`: the scalar on the right, and every sign turned
+-- beyond the list of document 01, 'What is taken', as in `matrix`: the scalar on the right, and every sign turned
 abbrev pub scaleBy : ℕ → List Float → Float → ℕ → Outcome (List Float)
 scaleBy order m s out =
     matrixOf order m out (λ x. given (arithmetic.mulScalar2 x s)) (λ x. given (arithmetic.mulScalar3 x s)) (λ x. given (arithmetic.mulScalar4 x s))
@@ -170,3 +170,9 @@ fromAngleZ order s c out = rotationOf order out (rotations.fromAngleZ3 s c) (rot
 
 abbrev pub fromAxisAngle : ℕ → Vector3 → Float → Float → ℕ → Outcome (List Float)
 fromAxisAngle order axis s c out = rotationOf order out (rotations.fromAxisAngle3 axis s c) (rotations.fromAxisAngle4 axis s c)
+
+-- ---- the version
+
+-- raised whenever the signature of an entry, or what it answers, changes
+abbrev pub version : ℕ
+version = 1
