@@ -3,7 +3,7 @@
 
 Usage: tools/called.py        after rt check: it reads what `rt mir` prints, where each call names its function
 
-- Every public function of the libraries is called by `cases` or `replay`, in a function that their `main` reaches.
+- Every public function of the libraries is called by `cases`, `replay` or `comesback`, in a function that their `main` reaches.
 - The in-place swaps are called by functions of the boundary.
 - Every function of the boundary is called by the C program, include/test/migthumo_test.c.
 """
@@ -13,7 +13,7 @@ import re
 import subprocess
 import sys
 
-PROGRAMS = ["cases", "replay"]
+PROGRAMS = ["cases", "replay", "comesback"]
 IN_PLACE = ["matrix::Matrix4::swap_rows_mut", "matrix::Matrix4::swap_columns_mut", "matrix::Matrix4::swap_elements_mut"]
 BOUNDARY = "migthumo"
 C_PROGRAM = "include/test/migthumo_test.c"

@@ -30,7 +30,16 @@ STATEMENTS = {
         "ZeroExactlyIf": "(n : ℕ) (m : Matrix) → ZeroExactlyIf n m",
     },
     "reference": {"Claims": "Claims table"},
-    "report": {"EveryReportFits": "EveryReportFits", "LowestTerms": "LowestTerms"},
+    "report": {
+        "EveryReportFits": "EveryReportFits",
+        "LowestTerms": "LowestTerms",
+        "JoinedWords": "JoinedWords",
+        "WordAdded": "WordAdded",
+        "EndOfReport": "EndOfReport",
+        "VerdictsFit": "VerdictsFit",
+        "ComesBackHeld": "ComesBackHeld",
+        "SaidIsTrue": "SaidIsTrue",
+    },
     "slips": {
         "CannotPass": "CannotPass",
         "InverseSlips": "InverseSlips",
@@ -53,7 +62,7 @@ def main():
     text = read(DEMAND)
     lines = re.findall(r"^abbrev pub (\w+) : .*Port.*→ Type 0$", text, re.M)
     fields = re.findall(r"^  pub [\w-]+ : (\w+) p", text[text.index("pub record Demand") :], re.M)
-    words = ["WholeEntries", "SameMatrix", "SameVector", "WholeVector"]
+    words = ["WholeEntries", "SameMatrix", "SameVector", "WholeVector", "ExactInverse", "HasExactInverse"]
     for name in lines:
         if name not in fields and name not in words:
             bad.append(f"{DEMAND}: {name} is no field of Demand")

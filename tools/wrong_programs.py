@@ -150,9 +150,31 @@ WRONG = {
         "rotations.rt migthumo_from_angle_z": [("around x", "Matrix3::from_angle_z", "Matrix3::from_angle_x"), ("the other way", "Matrix4::from_angle_z(s, c)", "Matrix4::from_angle_z(c, s)")],
         "rotations.rt migthumo_from_axis_angle": [("the axis turned", "Vector3::new(x, y, z)", "Vector3::new(z, y, x)"), ("sine for cosine", "z), s, c)", "z), c, s)")],
         "in_place.rt said": [("done answers 1", "Done => 0", "Done => 1"), ("a refusal answers 0", "cause.number()", "0")],
+        "version.rt migthumo_version": [("another number", "    1", "    2"), ("zero", "    1", "    0")],
         "in_place.rt migthumo_swap_rows_mut": [("the first number twice", "Row(a), Row(b)", "Row(a), Row(a)"), ("another number", "Row(b)", "Row(1)")],
         "in_place.rt migthumo_swap_columns_mut": [("the first number twice", "Column(a), Column(b)", "Column(a), Column(a)"), ("another number", "Column(b)", "Column(1)")],
         "in_place.rt migthumo_swap_elements_mut": [("a place row first", "Column(ac), Row(ar)", "Column(ar), Row(ac)"), ("one place twice", "Column(bc), Row(br)", "Column(ac), Row(ar)")],
+    },
+    "report": {
+        "lib.rt words_report": [("help for every line", "if help::asked(line)", "if !help::asked(line)"), ("the verdict in place of the report", "line::read_line(line), false", "line::read_line(line), true")],
+        "lib.rt verdict_line": [("the whole report", "line::read_line(line), true", "line::read_line(line), false")],
+        "lib.rt verdict_in": [("a word that does not fit not told from a line that is not read", "Found::NotWhole => Verdict::NotWhole", "Found::NotWhole => Verdict::NotRead"), ("no order taken for a rounded inverse", "Found::NoOrder => Verdict::NotRead", "Found::NoOrder => Verdict::Rounded")],
+        "lib.rt sum_verdict": [("refusal 2 at a sum of 1", "sum == 0", "sum == 1"), ("rounded said to come back", "    Verdict::Rounded", "    Verdict::ComesBack")],
+        "lib.rt not_whole": [("column and row exchanged", "(place / n) as u64", "(place % n) as u64"), ("the row counted from 1", "(place % n) as u64", "(place % n + 1) as u64")],
+        "line.rt read_line": [("another order taken", "order == 0", "order == 2"), ("a word more than the entries", "!entries.good", "entries.good")],
+        "read.rt is_blank": [("a tab is no blank", "b'\\t'", "b'\\n'"), ("a return is no blank", "byte == b'\\r'", "byte == b'\\n'")],
+        "read.rt number_of": [("any word is taken for 0", "return 1025;", "return 0;"), ("the sign dropped", "0 - magnitude", "magnitude")],
+        "ask.rt small_ones": [("1025 taken", "1024 < engine", "1025 < engine"), ("one place further", "return i;", "return i + 1;")],
+        "fraction.rt gcd": [("Euclid's step the wrong way", "x % y", "y % x"), ("always 1", "    x\n", "    1\n")],
+        "fraction.rt reduced": [("not in lowest terms", "over: a / common", "over: a"), ("upside down", "over: a / common", "over: b / common")],
+        "layout.rt sum_line": [("refusal 2 at a sum of 1", "sum == 0", "sum == 1"), ("the limit of order 4 at every order", "comes_back(out, at, n,", "comes_back(out, at, 4,")],
+        "layout.rt cell": [("the inverse transposed", "ask::cofactor(list, n, r, c)", "ask::cofactor(list, n, c, r)"), ("the matrix transposed", "ask::entry(list, n, c, r)", "ask::entry(list, n, r, c)")],
+        "totals.rt Totals::none": [("one line too many", "lines: 0", "lines: 1"), ("one that comes back too many", "back: 0", "back: 1")],
+        "totals.rt Totals::counted": [("the line not counted", "more(self.lines)", "self.lines"), ("another kind counted", "rounded = more(rounded)", "singular = more(singular)")],
+        "totals.rt line": [("two numbers exchanged", "totals.singular", "totals.outside"), ("one number twice", "totals.unread", "totals.outside")],
+        "totals.rt sums": [("a label left out", 'b"lines: "', 'b""'), ("two numbers exchanged", "totals.back", "totals.rounded")],
+        "words.rt add_word": [("no blank after the word", 'b" "', 'b"_"'), ("a line that is too short answered as one with room", "return line.len();", "return at;")],
+        "help.rt is_help": [("another word", 'b"--help"', 'b"-help"'), ("a word in capitals", 'b"--help"', 'b"--HELP"')],
     },
     "bits": {
         "lib.rt pattern": [("0 for every NaN", "{ NAN }", "{ 0 }"), ("the test turned round", "x != x", "x == x")],
@@ -243,4 +265,5 @@ def main():
     sys.exit(1 if bad else 0)
 
 
-main()
+if __name__ == "__main__":
+    main()

@@ -1,5 +1,5 @@
-// The numbers that document 01 fixes: of the records' constants their orders (the list has zero and identity), and the
-// number of each cause of a refusal.
+// Of the records' constants (document 01, 'Rules of the arithmetic') their orders, since the list has zero and identity; and the number
+// of each cause of a refusal (document 01, 'The numbers a refusal carries').
 use crate::count::Count;
 use matrix::Matrix2;
 use matrix::Matrix3;
@@ -18,7 +18,7 @@ fn orders(c: Count) -> Count {
     c.case(b"Matrix4::order", Matrix4::order() == 4)
 }
 
-// The numbers that document 01's table gives the causes.
+// The number of each cause: document 01, 'The numbers a refusal carries'.
 fn refusals(c: Count) -> Count {
     let c = c.case(b"Refusal::number 1", Refusal::OutOfRange.number() == 1);
     let c = c.case(b"Refusal::number 2", Refusal::Singular.number() == 2);

@@ -1,4 +1,4 @@
-// Document 01's inverse that is run only, and the way there and back, which is two calls and so no line of the list.
+// Document 01, 'Reference cases, both sides of each edge': the inverse that is run only. And the way there and back, which is two calls and so no line of the list.
 use crate::count::Count;
 use engine::NumberAnswer;
 use matrix::Matrix2;

@@ -1,5 +1,5 @@
-// Runs what document 01 wants run and what the list of `replay` can't hold: constants, magnitudes, the way there and back, every refusal
-// of a bulk move, reports. Expected values come from document 01 or are worked out by hand, on numbers where every step is exact.
+// Runs what document 01, 'Reference cases, both sides of each edge', wants run and what the list of `replay` can't hold: constants, magnitudes, the way
+// there and back, every refusal of a bulk move, reports. Expected values come from there or are worked out by hand, on numbers where every step is exact.
 mod constants;
 mod count;
 mod inverse;

@@ -12,7 +12,7 @@ const ROOM: usize = 99;
 const BEFORE: f64 = 77.0;
 
 // A case a row: 0 for vectors or 1 for points, the order, how many numbers the matrix, the vectors and the output have, and
-// the refusal, 0 for none. Document 01's four come first. (As an array of arrays the table takes half a minute to check.)
+// the refusal, 0 for none. The four of document 01, 'Reference cases, both sides of each edge', come first. (As an array of arrays the table takes half a minute to check.)
 const ROWS: [u32; 108] = [
     0_5_25_10_10_5,
     0_3_08_06_06_3,

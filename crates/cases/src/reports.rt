@@ -6,8 +6,8 @@ use libc::STDOUT_FILENO;
 const BEFORE: u8 = 7;
 
 // The lines, each up to its bar: orders 2, 3 and 4, sums that are powers of two and not, sums of zero, entries at both sides
-// of the limit, words that are no whole numbers, other counts of entries, other orders.
-const LINES: [[u8; 49]; 39] = [
+// of the limit, words that are no whole numbers, blanks of each kind, other counts of entries, other orders, --help.
+const LINES: [[u8; 49]; 49] = [
     *b"2 3 5 1 2|                                       ",
     *b"2 2 0 0 4|                                       ",
     *b"2 0 1 1 0|                                       ",
@@ -16,9 +16,11 @@ const LINES: [[u8; 49]; 39] = [
     *b"2 6 2 4 -10|                                     ",
     *b"2 1024 0 0 1024|                                 ",
     *b"2 1024 -1024 1024 1024|                          ",
-    *b"3 64 0 0 0 64 0 10 20 1|                         ",
+    *b"3 1 0 0 0 1 0 10 20 1|                           ",
+    *b"3 32 0 0 0 64 0 640 1024 1|                      ",
     *b"3 0 1 0 -1 0 0 10 20 1|                          ",
     *b"3 2 0 0 0 3 0 0 0 1|                             ",
+    *b"3 48 0 0 0 48 0 0 0 1|                           ",
     *b"4 2 0 0 0 0 2 0 0 0 0 2 0 4 6 8 1|               ",
     *b"4 1024 0 0 0 0 1024 0 0 0 0 1024 0 0 0 0 -1024|  ",
     *b"4 0 1 0 0 1 0 0 0 0 0 1 0 0 0 0 3|               ",
@@ -29,24 +31,32 @@ const LINES: [[u8; 49]; 39] = [
     *b"2 1 0 0 1000000000000000000000000000000000001024|",
     *b"2 0001024 -0 00 -01|                             ",
     *b"2 +5 0 0 1|                                      ",
-    *b"2 5x 0 0 1|                                      ",
-    *b"2 5.0 0 0 1|                                     ",
+    *b"2 0 5x 0 1|                                      ",
+    *b"2 0 0 0.5 1|                                     ",
     *b"2 - 0 0 1|                                       ",
-    *b"2 --1 0 0 1|                                     ",
+    *b"2 1 0 0 --1|                                     ",
+    *b"3 1 0 0 0 1 0 0 0 1e3|                           ",
+    *b"4 1 0 0 0 0 1 0 0 0 0 1 0 0 0 x 1|               ",
+    *b"2 1x 0 0 1025|                                   ",
+    *b"2 1  0 \t0  1|                                    ",
+    *b" 2 1 0 0 1 |                                     ",
+    *b"2\t1\t0\t0\t1\r|                                      ",
     *b"2 1  0 1|                                        ",
-    *b"2 1 0 0 1 |                                      ",
     *b"2 1 0 0|                                         ",
     *b"2 1 0 0 1 0|                                     ",
     *b"3 1 0 0 1|                                       ",
     *b"4|                                               ",
     *b"2|                                               ",
     *b"|                                                ",
+    *b" \t|                                              ",
     *b"5 1 0 0 1|                                       ",
     *b"02 1 0 0 1|                                      ",
     *b"-2 1 0 0 1|                                      ",
     *b"two 1 0 0 1|                                     ",
-    *b" 2 1 0 0 1|                                      ",
-    *b"2 1x 0 0 1025|                                   ",
+    *b"--help|                                          ",
+    *b"3 1 --help|                                      ",
+    *b"-help|                                           ",
+    *b"--helps|                                         ",
 ];
 
 // The line of a row: what stands before its bar.
@@ -121,7 +131,7 @@ fn row_case(c: Count, row: [u8; 49]) -> Count {
 pub(crate) fn run(c: Count) -> Count {
     let mut all = c;
     let mut i: usize = 0;
-    while i < 39 {
+    while i < 49 {
         all = row_case(all, LINES[i]);
         i += 1;
     }

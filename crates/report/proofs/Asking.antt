@@ -38,10 +38,9 @@ use Rattle.engine.proofs.Signed.{back, small-back}
 use Rattle.engine.proofs.Places.{below-two, below-three, below-four}
 use Rattle.engine.proofs.Taken.{whole-entries}
 use Rattle.engine.proofs.Outcomes.{taken-yes}
-use Rattle.report.specs.Words.{all}
-use Rattle.report.specs.Report.{small}
-use Rattle.report.proofs.Reading.{member-passes, member-fails, members-over}
-use Rattle.report.specs.Entries.{columns, SmallList, floatAt, AsFloats, numberIn}
+use Rattle.report.specs.Words.{passing}
+use Rattle.report.proofs.Reading.{passing-more, passing-ends, passing-over}
+use Rattle.report.specs.Entries.{columns, small, SmallList, floatAt, AsFloats, numberIn}
 
 -- ---- the list
 
@@ -57,7 +56,7 @@ place n c r h l = omega (arith, mul-le-mul-right {m = suc c} {n = n} n h, suc-mu
 pub room : (n : ℕ) → n ≤ 4 → n * n ≤ 16
 room n h = le-trans (mul-le-mul-right {m = n} {n = 4} n h) (omega arith)
 
--- a number among the first is tested, and the rest decide, or it is beyond 1024
+-- a number among the first is small and counted, or it is beyond 1024 and ends the count
 module _ (list : List ℤ) (count i : ℕ) (within-list : count ≤ length list) (h : i < count) (m : ℕ) (fits : mag (getD list i (pos 0)) < 2 ^ 63) (is-held : m ≡ natAbs (toZ w64 (ofZ w64 (getD list i (pos 0))))) where
   is : m ≡ natAbs (getD list i (pos 0))
   is = is-held ∙ ap natAbs (back (getD list i (pos 0)) fits)
@@ -65,14 +64,21 @@ module _ (list : List ℤ) (count i : ℕ) (within-list : count ≤ length list)
   there : i < length (take count list)
   there = rw (length-take-le count list within-list) h
 
-  pub small-passes : m ≤ 1024 → all small (drop i (take count list)) ≡ all small (drop (i + 1) (take count list))
-  small-passes few = member-passes small (pos 0) (take count list) i there (rw (getD-take count list i (pos 0) h, ← is) (le-leb m 1024 few))
+  pub small-passes : m ≤ 1024 → passing small (drop i (take count list)) ≡ suc (passing small (drop (i + 1) (take count list)))
+  small-passes few = passing-more small (pos 0) (take count list) i there (rw (getD-take count list i (pos 0) h, ← is) (le-leb m 1024 few))
 
-  pub small-fails : 1024 < m → all small (drop i (take count list)) ≡ false
-  small-fails beyond = member-fails small (pos 0) (take count list) i there (rw (getD-take count list i (pos 0) h, ← is) (lt-leb m 1024 beyond))
+  pub small-fails : 1024 < m → passing small (drop i (take count list)) ≡ 0
+  small-fails beyond = passing-ends small (pos 0) (take count list) i there (rw (getD-take count list i (pos 0) h, ← is) (lt-leb m 1024 beyond))
 
-pub small-over : (list : List ℤ) (count i : ℕ) → count ≤ length list → count ≤ i → all small (drop i (take count list)) ≡ true
-small-over list count i within-list h = members-over small (take count list) i (rw (length-take-le count list within-list) h)
+pub small-over : (list : List ℤ) (count i : ℕ) → count ≤ length list → count ≤ i → passing small (drop i (take count list)) ≡ 0
+small-over list count i within-list h = passing-over small (take count list) i (rw (length-take-le count list within-list) h)
+
+-- the count stops there, or goes on
+pub stopped : (i x p : ℕ) → x ≡ 0 → i + x ≡ p → i ≡ p
+stopped i x p none is = omega (arith, none, is)
+
+pub gone-on : (i x y p : ℕ) → x ≡ suc y → i + x ≡ p → i + 1 + y ≡ p
+gone-on i x y p one is = omega (arith, one, is)
 
 -- a number's float
 pub float-is : (list : List ℤ) (i : ℕ) (x : Float) → SmallList (i + 1) list → x ≡ ofInt binary64 (toZ w64 (ofZ w64 (getD list i (pos 0)))) → x ≡ floatAt list i

@@ -1,9 +1,8 @@
 -- Every report fits in 2048 bytes: a number has 20 digits at most, and the sentences are what they are.
 -- Assumes nothing.
-use mathlib.Core.Path.{_≡_, refl}
-use mathlib.Core.Bool.{Bool, true, false, cond, _&&_}
-use mathlib.Core.List.{List, [], _∷_, _++_, map}
-use Prim.Native.Nat.{ℕ, zero, suc, _+_, _*_, _/_, _^_, _≤_}
+use mathlib.Core.Bool.{Bool, true, false, cond}
+use mathlib.Core.List.{[], _∷_, _++_}
+use Prim.Native.Nat.{ℕ, zero, suc, _+_, _*_, _/_, _%_, _^_, _≤_}
 use native.Mathlib.Nat.{le-trans, suc-mul, mul-le-mul-right}
 use native.Mathlib.Omega.{arith}
 use lib.Dec.{leb, eqb, lit≤}
@@ -15,17 +14,18 @@ use Rattle.whole.specs.Order.{signed-sum}
 use Rattle.engine.specs.Engine.{oneBit, cofactorOf}
 use Rattle.report.specs.declared.fraction.Ratio.{Ratio}
 use Rattle.report.specs.Text.{Bytes, text, each, digit, higher, decimal, whole}
-use Rattle.report.specs.Words.{all, words, orderOf, isNumber, numberOf}
+use Rattle.report.specs.Words.{some, words, isHelp}
 use Rattle.report.specs.Entries.{columns}
-use Rattle.report.specs.Report.{reduced, ratioText, fraction, cell, rowOf, rowsOf, exactness, comesBack, inverseReport, sumReport, matrixReport, small, matrixHead, sumHead, refusal2, refusal6, numbersReport, orderExpected, entriesExpected, entriesReport, wordsReport, EveryReportFits}
-use Rattle.report.proofs.Lines.{ordered}
+use Rattle.report.specs.Line.{Line, noOrder, otherCount, notWhole, matrix, lineOf}
+use Rattle.report.specs.Report.{reduced, ratioText, fraction, cell, rowOf, rowsOf, exactness, comesBack, inverseReport, sumReport, matrixHead, sumHead, refusal2, refusal6, entriesExpected, help, told, reportOf, EveryReportFits}
+use Rattle.report.proofs.Lines.{SquareIn, square-in}
 
 -- one text after another
-joined : (s t : Bytes) (a b : ℕ) → length s ≤ a → length t ≤ b → length (s ++ t) ≤ a + b
+pub joined : (s t : Bytes) (a b : ℕ) → length s ≤ a → length t ≤ b → length (s ++ t) ≤ a + b
 joined s t a b h l = rw (length-append s t) (omega arith)
 
 -- one of two texts
-either : (b : Bool) (s t : Bytes) (a : ℕ) → length s ≤ a → length t ≤ a → length (cond b s t) ≤ a
+pub either : (b : Bool) (s t : Bytes) (a : ℕ) → length s ≤ a → length t ≤ a → length (cond b s t) ≤ a
 either true s t a h l = h
 either false s t a h l = l
 
@@ -42,7 +42,7 @@ higher-fits (suc j) n =
     let first = either (leb (10 ^ suc j) n) (digit (n / 10 ^ suc j) ∷ []) [] 1 (lit≤ tt) (lit≤ tt) in
     rw (length-append (cond (leb (10 ^ suc j) n) (digit (n / 10 ^ suc j) ∷ []) []) (higher j n)) (omega (arith, first, higher-fits j n))
 
-decimal-fits : (n : ℕ) → length (decimal n) ≤ 20
+pub decimal-fits : (n : ℕ) → length (decimal n) ≤ 20
 unfolding decimal
 decimal-fits n = joined (higher 19 n) (digit n ∷ []) 19 1 (higher-fits 19 n) (lit≤ tt)
 
@@ -84,7 +84,7 @@ unfolding exactness
 exactness-fits true = lit≤ tt
 exactness-fits false = lit≤ tt
 
-comes-back-fits : (n : ℕ) (b : Bool) → length (comesBack n b) ≤ 100
+pub comes-back-fits : (n : ℕ) (b : Bool) → length (comesBack n b) ≤ 100
 unfolding comesBack
 comes-back-fits n true = by-order (eqb n 4)
   where
@@ -113,21 +113,33 @@ module _ (n : ℕ) (m : Matrix) (most : n ≤ 4) where
       (either (eqb (natAbs s) 0) refusal2 (inverseReport n m s) 892 (lit≤ tt) (inverse-fits s)))
       (lit≤ tt)
 
-  numbers-fit : (zs : List ℤ) → m ≡ columns n zs → length (numbersReport n zs) ≤ 2048
-  unfolding numbersReport
-  numbers-fit zs is = either (all small zs) (matrixReport n (columns n zs)) refusal6 2048 (rw (← is) (matrix-fits (signed-sum n m))) (lit≤ tt)
+-- what a line holds
+pub refusal-fits : (n place : ℕ) → length (refusal6 n place) ≤ 200
+unfolding refusal6
+refusal-fits n place =
+    le-trans
+    (joined (text "refusal 6: the entry at column " ++ decimal (place / n) ++ text ", row " ++ decimal (place % n)) (text " (both counted from 0) is not a whole number of magnitude at most 1024\n") 79 80
+    (joined (text "refusal 6: the entry at column " ++ decimal (place / n) ++ text ", row ") (decimal (place % n)) 59 20
+    (joined (text "refusal 6: the entry at column " ++ decimal (place / n)) (text ", row ") 53 6 (joined (text "refusal 6: the entry at column ") (decimal (place / n)) 33 20 (lit≤ tt) (decimal-fits (place / n))) (lit≤ tt))
+    (decimal-fits (place % n))) (lit≤ tt))
+    (lit≤ tt)
 
-entries-fit : (n : ℕ) (ws : List Bytes) → n ≤ 4 → length (entriesReport n ws) ≤ 2048
-unfolding entriesReport entriesExpected
-entries-fit n ws most =
-    either (all isNumber ws && eqb (length ws) (n * n)) (numbersReport n (map numberOf ws)) (entriesExpected n) 2048 (numbers-fit n (columns n (map numberOf ws)) most (map numberOf ws) refl)
-    (le-trans (joined (text "expected " ++ decimal (n * n)) (text " whole numbers after the order, column by column\n") 30 100 (joined (text "expected ") (decimal (n * n)) 10 20 (lit≤ tt) (decimal-fits (n * n))) (lit≤ tt)) (lit≤ tt))
+pub expected-fits : (n : ℕ) → length (entriesExpected n) ≤ 200
+unfolding entriesExpected
+expected-fits n = le-trans (joined (text "expected " ++ decimal (n * n)) (text " whole numbers after the order, column by column\n") 30 100 (joined (text "expected ") (decimal (n * n)) 10 20 (lit≤ tt) (decimal-fits (n * n))) (lit≤ tt)) (lit≤ tt)
 
-words-fit : (ws : List Bytes) → length (wordsReport ws) ≤ 2048
-unfolding wordsReport
-words-fit [] = lit≤ tt
-words-fit (w ∷ ws) = either (eqb (orderOf w) 0) orderExpected (entriesReport (orderOf w) ws) 2048 (lit≤ tt) (entries-fit (orderOf w) ws (ordered w .most))
+told-fits : (line : Line) → SquareIn line → length (told line) ≤ 2048
+unfolding told SquareIn
+told-fits noOrder square = lit≤ tt
+told-fits (otherCount n) square = le-trans (expected-fits n) (lit≤ tt)
+told-fits (notWhole n place) square = le-trans (refusal-fits n place) (lit≤ tt)
+told-fits (matrix n zs) square = matrix-fits n (columns n zs) (square .most) (signed-sum n (columns n zs))
+
+help-fits : length help ≤ 2048
+unfolding help
+help-fits = lit≤ tt
 
 -- every line
 pub every-report-fits : EveryReportFits
-every-report-fits line = words-fit (words line)
+unfolding reportOf
+every-report-fits line = either (some isHelp (words line)) help (told (lineOf line)) 2048 help-fits (told-fits (lineOf line) (square-in (words line)))

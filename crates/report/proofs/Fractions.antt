@@ -1,22 +1,22 @@
--- The sign of a fraction by the signs of its numbers, and the loop that halves both.
+-- The sign of a fraction by the signs of its numbers, and the loop that finds the greatest common divisor.
 -- Assumes nothing.
 use mathlib.Core.Path.{_≡_, refl, sym, ap, _∙_}
 use mathlib.Core.Bool.{Bool, true, false, cond}
 use mathlib.Core.List.{[], _++_, append-nil}
 use Prim.Native.Nat.{ℕ, zero, suc, _*_, _-_, _/_, _%_, _^_, _≤_, _<_}
-use native.Mathlib.Nat.{zero-mul, mul-zero, suc-mul}
+use native.Mathlib.Nat.{zero-mul, mul-zero, suc-mul, mod-lt, zero-div}
 use native.Mathlib.Omega.{arith}
 use lib.IntN.{ℤ, pos, negsuc, negℤ, natAbs, _*ℤ_}
 use lib.Signed.{mag, ltZ}
 use borrow.Author.Tests.{le-ltb, ltb-true, ltb-false, eq-eqb, ne-eqb}
-use Rattle.engine.specs.Engine.{oneBit}
 use Rattle.engine.proofs.Signed.{back}
 use Rattle.report.specs.declared.fraction.Ratio.{Ratio}
 use Rattle.report.specs.Text.{Bytes, text, decimal}
 use Rattle.report.specs.Written.{Wrote}
-use Rattle.report.specs.Report.{ratio, halved, reduced, ratioText, fraction}
+use Rattle.report.specs.Report.{ratio, euclid, gcd, reduced, ratioText, fraction}
 use Rattle.report.proofs.Signs.{held, tested, differ}
 use Rattle.report.proofs.Writing.{then, named}
+use Rattle.report.proofs.Lowest.{gcd-zero}
 
 -- ---- the sign
 
@@ -89,42 +89,49 @@ module _ (k s : ℤ) (k-fits : mag k < 2 ^ 63) (s-fits : mag s < 2 ^ 63) {l l′
   pub case-zero : ltZ (held k) (pos 0) ≡ false → ltZ (pos 0) (held k) ≡ false → Wrote l at [] l′ at′ → Wrote l at (cond (ltZ (k *ℤ s) (pos 0)) (text "-") []) l′ at′
   case-zero a b w = signed false (zero-over k s (tested k false k-fits a) (above k false k-fits b)) w
 
--- ---- halving
+-- ---- the greatest common divisor
 
--- an odd number stops it
-pub over-odd : (times a b : ℕ) → (a % 2 ≡ 0 → ⊥) → ratio a b ≡ halved times a b
-unfolding halved
-over-odd zero a b odd = refl
-over-odd (suc k) a b odd = rw (ne-eqb (a % 2) 0 odd)
+-- where the loop stands: so many steps, which are enough, come to the same
+pub record Steps (a b x y : ℕ) : Type 0 where
+  pub left : ℕ
+  pub enough : y ≤ left
+  pub same : euclid left x y ≡ gcd a b
 
-pub under-odd : (times a b : ℕ) → a % 2 ≡ 0 → (b % 2 ≡ 0 → ⊥) → ratio a b ≡ halved times a b
-unfolding halved
-under-odd zero a b even odd = refl
-under-odd (suc k) a b even odd = rw (eq-eqb (a % 2) 0 even, ne-eqb (b % 2) 0 odd)
+pub steps-start : (a b : ℕ) → Steps a b a b
+steps-start a b = record { left = b; enough = omega arith; same = refl }
 
--- both are even
-pub both-even : (times a b : ℕ) → 0 < times → a % 2 ≡ 0 → b % 2 ≡ 0 → halved (times - 1) (a / 2) (b / 2) ≡ halved times a b
-unfolding halved
-both-even zero a b h even even′ = absurd (omega arith)
-both-even (suc k) a b h even even′ =
-    let one-less : suc k - 1 ≡ k = omega arith in
-    rw (one-less, eq-eqb (a % 2) 0 even, eq-eqb (b % 2) 0 even′)
+pub steps-turn : {a b x y : ℕ} → (y ≡ 0 → ⊥) → Steps a b x y → Steps a b y (x % y)
+unfolding euclid
+steps-turn {a} {b} {x} {y} some st = step (st .left) (st .enough) (st .same)
+  where
+    step : (k : ℕ) → y ≤ k → euclid k x y ≡ gcd a b → Steps a b y (x % y)
+    step zero h e = absurd (omega arith)
+    step (suc k) h e =
+        let less : x % y < y = mod-lt x (omega arith) in
+        record { left = k; enough = omega arith; same = rw (ne-eqb y 0 some) at e }
 
--- no turn is left
-pub no-turn : (times a b : ℕ) → times ≤ 0 → ratio a b ≡ halved times a b
-unfolding halved
-no-turn zero a b h = refl
-no-turn (suc k) a b h = absurd (omega arith)
+pub steps-end : {a b x y : ℕ} → y ≡ 0 → Steps a b x y → x ≡ gcd a b
+unfolding euclid
+steps-end {a} {b} {x} {y} none st = step (st .left) (st .same)
+  where
+    step : (k : ℕ) → euclid k x y ≡ gcd a b → x ≡ gcd a b
+    step zero e = e
+    step (suc k) e = rw (eq-eqb y 0 none) at e
 
 -- ---- lowest terms
 
-pub over-power : (a b : ℕ) (q : Ratio) → oneBit b ≡ true → q ≡ halved 63 a b → q ≡ reduced a b
+-- there is a common divisor
+pub over-common : (a b g : ℕ) → g ≡ gcd a b → ratio (a / g) (b / g) ≡ reduced a b
 unfolding reduced
-over-power a b q e is = is ∙ rw e
+over-common a b g is = rw is
 
-pub over-other : (a b : ℕ) → oneBit b ≡ false → ratio a b ≡ reduced a b
+-- there is none but for two zeros
+pub over-nothing : (a b g : ℕ) → g ≡ gcd a b → g ≡ 0 → ratio a b ≡ reduced a b
 unfolding reduced
-over-other a b e = rw e
+over-nothing a b g is none =
+    let zeros = gcd-zero a b (sym is ∙ none) in
+    let nothing : 0 / gcd 0 0 ≡ 0 = zero-div (gcd 0 0) in
+    rw (zeros .0, zeros .1, nothing)
 
 -- ---- the text
 

@@ -1,28 +1,28 @@
--- From what was read to the report of the line, and from what was written to the whole output.
+-- From what was read to what the line holds, and from what was written to the whole output.
 -- Assumes nothing.
 use mathlib.Core.Path.{_≡_, refl, sym, ap, _∙_, subst}
 use mathlib.Core.Bool.{Bool, true, false, cond, _&&_}
 use mathlib.Core.List.{List, [], _∷_, map}
 use Prim.Native.Nat.{ℕ, zero, suc, _+_, _*_, _-_, _≤_, _<_, min}
 use native.Mathlib.Omega.{arith}
-use lib.Dec.{leb}
+use lib.Dec.{leb, eqb}
 use lib.IntN.{ℤ, pos, natAbs}
-use lib.ListN.{length, take, getD, set}
+use lib.ListN.{length, take, drop, getD, set, length-map}
 use lib.Seq.{sets, getD-take, length-take-le, drop-nil}
-use borrow.Author.Tests.{leb-true, eq-eqb, ne-eqb}
+use borrow.Author.Tests.{leb-true, leb-false, eqb-true, eqb-false, eq-eqb, ne-eqb}
 use Rattle.whole.proofs.Ring.{abs-neg}
 use Rattle.exact.specs.Value.{signed}
 use Rattle.report.specs.Text.{Bytes}
 use Rattle.report.specs.Written.{Wrote}
-use Rattle.report.specs.Words.{all, words, wordsFrom, orderOf, negative, digitsOf, value, numberOf, held}
-use Rattle.report.specs.Read.{FirstWord, Numbers}
-use Rattle.report.specs.Entries.{columns, SmallList}
-use Rattle.report.specs.Report.{small, refusal6, matrixReport, numbersReport, orderExpected, entriesExpected, entriesReport, wordsReport, reportOf, atStart}
+use Rattle.report.specs.Words.{passing, words, orderOf, negative, digitsOf, isNumber, value, numberOf, fits}
+use Rattle.report.specs.Read.{wordsFrom, held, Skipped, FirstPart, Numbers}
+use Rattle.report.specs.Entries.{small, SmallList, Square}
+use Rattle.report.specs.Line.{Line, noOrder, otherCount, notWhole, matrix, entriesIn, afterOrder, lineIn, lineOf}
+use Rattle.report.specs.Report.{atStart}
 use Rattle.report.proofs.Signs.{differ}
-use Rattle.report.proofs.Reading.{agree}
+use Rattle.report.proofs.Reading.{agree, part-long, no-word, first-word}
 use Rattle.report.proofs.Writing.{sets-past}
 use Rattle.report.proofs.Asking.{place, room}
-use Rattle.report.proofs.Alike.{report-ext}
 
 -- ---- the order
 
@@ -48,19 +48,31 @@ ordered (b ∷ []) = by-least (leb 50 b) refl
     by-least false e = none
 ordered (b ∷ d ∷ w) = none
 
-module _ (line : Bytes) (end n : ℕ) (first : FirstWord line end) (order : n ≡ orderOf (take end line)) where
+module _ (line rest : Bytes) (start end n : ℕ) (skipped : Skipped line start) (here : rest ≡ take (length line - start) (drop start line)) (first : FirstPart rest end) (order : n ≡ orderOf (take end rest)) where
   pub order-range : Ordered n
-  order-range = subst Ordered (sym order) (ordered (take end line))
+  order-range = subst Ordered (sym order) (ordered (take end rest))
 
   -- no order
-  pub no-order : n ≡ 0 → orderExpected ≡ reportOf line
-  unfolding wordsReport
-  no-order zero-is = rw (first .is, eq-eqb (orderOf (take end line)) 0 (sym order ∙ zero-is))
+  pub no-order : n ≡ 0 → noOrder ≡ lineOf line
+  unfolding lineIn
+  no-order zero-is = by-test (leb 1 end) refl
+    where
+      by-test : (t : Bool) → leb 1 end ≡ t → noOrder ≡ lineOf line
+      by-test true e = rw (first-word line rest start end (skipped .within) here first skipped (leb-true 1 end e), eq-eqb (orderOf (take end rest)) 0 (sym order ∙ zero-is))
+      by-test false e = rw (no-word line rest start end (skipped .within) here first skipped (omega (arith, leb-false 1 end e)))
 
   -- an order, and the words after it
-  pub with-order : (n ≡ 0 → ⊥) → entriesReport n (wordsFrom line (end + 1)) ≡ reportOf line
-  unfolding wordsReport
-  with-order some = rw (first .is, ← order, ne-eqb n 0 some)
+  pub with-order : (n ≡ 0 → ⊥) → afterOrder n (wordsFrom line (start + end + 1)) ≡ lineOf line
+  unfolding lineIn orderOf
+  with-order some-is = by-test (leb 1 end) refl
+    where
+      none : (w : Bytes) → length w < 1 → orderOf w ≡ 0
+      none [] h = refl
+      none (b ∷ w) h = absurd (omega arith)
+
+      by-test : (t : Bool) → leb 1 end ≡ t → afterOrder n (wordsFrom line (start + end + 1)) ≡ lineOf line
+      by-test true e = rw (first-word line rest start end (skipped .within) here first skipped (leb-true 1 end e), ← order, ne-eqb n 0 some-is)
+      by-test false e = absurd (some-is (order ∙ none (take end rest) (rw (part-long line rest start end (skipped .within) here first) (leb-false 1 end e))))
 
 -- ---- the numbers
 
@@ -69,84 +81,125 @@ magnitude : (b : Bool) (n : ℕ) → natAbs (signed b n) ≡ n
 magnitude true n = abs-neg (pos n)
 magnitude false n = refl
 
--- a number that the code holds is small exactly where the word's own is
-small-same : (w : Bytes) → small (held w) ≡ small (numberOf w)
-small-same w =
-    let v = value 0 (digitsOf w) in
-    rw (magnitude (negative w) (min 1025 v), magnitude (negative w) v) (agree (min 1025 v) v 1024 1024 (λ l. omega arith) (λ l. omega arith))
-
-all-small-same : (ws : List Bytes) → all small (map held ws) ≡ all small (map numberOf ws)
-all-small-same [] = refl
-all-small-same (w ∷ ws) = rw (small-same w, all-small-same ws)
-
--- and where it is small it is that number
-held-same : (w : Bytes) → small (numberOf w) ≡ true → held w ≡ numberOf w
-held-same w e =
-    let v = value 0 (digitsOf w) in
-    let few : v ≤ 1024 = leb-true v 1024 (sym (ap (λ k. leb k 1024) (magnitude (negative w) v)) ∙ e) in
-    let same : min 1025 v ≡ v = omega arith in
-    rw same
-
-all-held-same : (ws : List Bytes) → all small (map numberOf ws) ≡ true → map held ws ≡ map numberOf ws
-all-held-same [] e = refl
-all-held-same (w ∷ ws) e = by-test (all-held-same ws) (small (numberOf w)) refl e
+-- a word that the code holds is small exactly where the word fits
+small-same : (w : Bytes) → small (held w) ≡ fits w
+unfolding held fits
+small-same w = by-test (isNumber w)
   where
-    by-test : (all small (map numberOf ws) ≡ true → map held ws ≡ map numberOf ws) → (b : Bool) → small (numberOf w) ≡ b → b && all small (map numberOf ws) ≡ true → held w ∷ map held ws ≡ numberOf w ∷ map numberOf ws
-    by-test others true is rest = rw (held-same w is, others rest)
-    by-test others false is rest = differ (sym rest)
+    by-test : (t : Bool) → small (cond t (signed (negative w) (min 1025 (value 0 (digitsOf w)))) (pos 1025)) ≡ t && leb (value 0 (digitsOf w)) 1024
+    by-test true =
+        let v = value 0 (digitsOf w) in
+        rw (magnitude (negative w) (min 1025 v)) (agree (min 1025 v) v 1024 1024 (λ l. omega arith) (λ l. omega arith))
+    by-test false = refl
+
+passing-same : (ws : List Bytes) → passing small (map held ws) ≡ passing fits ws
+passing-same [] = refl
+passing-same (w ∷ ws) = rw (small-same w, passing-same ws)
+
+-- and where it fits it is that number
+held-same : (w : Bytes) → fits w ≡ true → held w ≡ numberOf w
+unfolding held fits
+held-same w = by-test (isNumber w)
+  where
+    by-test : (t : Bool) → t && leb (value 0 (digitsOf w)) 1024 ≡ true → cond t (signed (negative w) (min 1025 (value 0 (digitsOf w)))) (pos 1025) ≡ numberOf w
+    by-test true e =
+        let v = value 0 (digitsOf w) in
+        let few : v ≤ 1024 = leb-true v 1024 e in
+        let is : min 1025 v ≡ v = omega arith in
+        rw is
+    by-test false e = differ (sym e)
+
+-- a count of all members: the first passes, and so do the others
+more-pass : {A : Type 0} (test : A → Bool) (x : A) (xs : List A) → passing test (x ∷ xs) ≡ suc (length xs) → (test x ≡ true) × (passing test xs ≡ length xs)
+more-pass test x xs = by-test (test x)
+  where
+    by-test : (t : Bool) → cond t (suc (passing test xs)) 0 ≡ suc (length xs) → (t ≡ true) × (passing test xs ≡ length xs)
+    by-test true e = (refl, omega arith)
+    by-test false e = absurd (omega arith)
+
+all-held-same : (ws : List Bytes) → passing fits ws ≡ length ws → map held ws ≡ map numberOf ws
+all-held-same [] e = refl
+all-held-same (w ∷ ws) e = let both = more-pass fits w ws e in rw (held-same w (both .0), all-held-same ws (both .1))
 
 -- a member of numbers that are all small
-member-small : (zs : List ℤ) (i : ℕ) → all small zs ≡ true → i < length zs → natAbs (getD zs i (pos 0)) ≤ 1024
+member-small : (zs : List ℤ) (i : ℕ) → passing small zs ≡ length zs → i < length zs → natAbs (getD zs i (pos 0)) ≤ 1024
 member-small [] i e h = absurd (omega arith)
-member-small (z ∷ zs) zero e h = by-test (small z) refl e
-  where
-    by-test : (b : Bool) → small z ≡ b → b && all small zs ≡ true → natAbs z ≤ 1024
-    by-test true is rest = leb-true (natAbs z) 1024 is
-    by-test false is rest = differ (sym rest)
-member-small (z ∷ zs) (suc i) e h = by-test (λ rest. member-small zs i rest (omega arith)) (small z) e
-  where
-    by-test : (all small zs ≡ true → natAbs (getD zs i (pos 0)) ≤ 1024) → (b : Bool) → b && all small zs ≡ true → natAbs (getD zs i (pos 0)) ≤ 1024
-    by-test others true rest = others rest
-    by-test others false rest = differ (sym rest)
+member-small (z ∷ zs) zero e h = leb-true (natAbs z) 1024 (more-pass small z zs e .0)
+member-small (z ∷ zs) (suc i) e h = member-small zs i (more-pass small z zs e .1) (omega arith)
 
 module _ (line : Bytes) (from n : ℕ) (good : Bool) (list : List ℤ) (read : Numbers line from (n * n) good list) where
-  -- other words than expected
-  pub not-expected : good ≡ false → entriesExpected n ≡ entriesReport n (wordsFrom line from)
-  unfolding entriesReport
+  -- another number of words than expected
+  pub not-expected : good ≡ false → otherCount n ≡ afterOrder n (wordsFrom line from)
+  unfolding afterOrder
   not-expected e = rw (sym (read .tested) ∙ e)
 
   module _ (is-good : good ≡ true) (few : n ≤ 4) where
-    numbers-follow : numbersReport n (map numberOf (wordsFrom line from)) ≡ entriesReport n (wordsFrom line from)
-    unfolding entriesReport
-    numbers-follow = rw (sym (read .tested) ∙ is-good)
+    entries-follow : entriesIn n (wordsFrom line from) ≡ afterOrder n (wordsFrom line from)
+    unfolding afterOrder
+    entries-follow = rw (sym (read .tested) ∙ is-good)
 
-    tested-is : all small (take (n * n) list) ≡ all small (map numberOf (wordsFrom line from))
-    tested-is = ap (all small) (read .read is-good) ∙ all-small-same (wordsFrom line from)
+    long : length (wordsFrom line from) ≡ n * n
+    long = eqb-true (length (wordsFrom line from)) (n * n) (sym (read .tested) ∙ is-good)
 
-    -- a number beyond 1024
-    pub beyond : all small (take (n * n) list) ≡ false → refusal6 ≡ entriesReport n (wordsFrom line from)
-    unfolding numbersReport
-    beyond e = rw (sym tested-is ∙ e) at numbers-follow
+    tested-is : passing small (take (n * n) list) ≡ passing fits (wordsFrom line from)
+    tested-is = ap (passing small) (read .read is-good) ∙ passing-same (wordsFrom line from)
 
-    module _ (all-small : all small (take (n * n) list) ≡ true) where
+    -- a word that does not fit
+    pub beyond : (k : ℕ) → k ≡ passing small (take (n * n) list) → (k ≡ n * n → ⊥) → notWhole n k ≡ afterOrder n (wordsFrom line from)
+    unfolding entriesIn
+    beyond k is other = rw (sym (is ∙ tested-is), ne-eqb k (n * n) other) at entries-follow
+
+    module _ (k : ℕ) (is : k ≡ passing small (take (n * n) list)) (every : k ≡ n * n) where
       -- the entries are small
       pub list-small : SmallList (n * n) list
       list-small =
+          let long-list = length-take-le (n * n) list (omega (arith, read .room, room n few)) in
           record {
             each =
                 λ i h. rw (getD-take (n * n) list i (pos 0) h)
-                at (member-small (take (n * n) list) i all-small (rw (length-take-le (n * n) list (omega (arith, read .room, room n few))) h));
+                at (member-small (take (n * n) list) i (sym is ∙ every ∙ sym long-list) (rw long-list h));
           }
 
       -- and the matrix follows
-      pub matrix-follows : matrixReport n (columns n list) ≡ entriesReport n (wordsFrom line from)
-      unfolding numbersReport
+      pub matrix-follows : matrix n (take (n * n) list) ≡ afterOrder n (wordsFrom line from)
+      unfolding entriesIn
       matrix-follows =
-          let numbers-small = sym tested-is ∙ all-small in
-          let list-is : take (n * n) list ≡ map numberOf (wordsFrom line from) = read .read is-good ∙ all-held-same (wordsFrom line from) numbers-small in
-          report-ext n (columns n list) (columns n (map numberOf (wordsFrom line from)))
-          (λ c r h l. sym (getD-take (n * n) list (c * n + r) (pos 0) (place n c r h l)) ∙ ap (λ (zs : List ℤ). getD zs (c * n + r) (pos 0)) list-is)
-          ∙ rw numbers-small at numbers-follow
+          let all-fit : passing fits (wordsFrom line from) ≡ n * n = sym tested-is ∙ sym is ∙ every in
+          let list-is : take (n * n) list ≡ map numberOf (wordsFrom line from) = read .read is-good ∙ all-held-same (wordsFrom line from) (all-fit ∙ sym long) in
+          ap (matrix n) list-is ∙ rw (eq-eqb (passing fits (wordsFrom line from)) (n * n) all-fit) at entries-follow
+
+-- ---- a matrix that a line holds
+
+-- its order is from 2 to 4, and its entries are small
+unfoldable pub SquareIn : Line → Type 0
+SquareIn noOrder = Unit
+SquareIn (otherCount n) = Unit
+SquareIn (notWhole n place) = Unit
+SquareIn (matrix n zs) = Square n zs
+
+pub square-in : (ws : List Bytes) → SquareIn (lineIn ws)
+unfolding lineIn afterOrder entriesIn SquareIn
+square-in [] = tt
+square-in (w ∷ ws) = by-order (eqb (orderOf w) 0) refl
+  where
+    n : ℕ
+    n = orderOf w
+
+    by-fit : (orderOf w ≡ 0 → ⊥) → length ws ≡ n * n → (t : Bool) → eqb (passing fits ws) (n * n) ≡ t → SquareIn (cond t (matrix n (map numberOf ws)) (notWhole n (passing fits ws)))
+    by-fit some many true e =
+        let fit : passing fits ws ≡ length ws = eqb-true (passing fits ws) (n * n) e ∙ sym many in
+        let same : map held ws ≡ map numberOf ws = all-held-same ws fit in
+        let all-small : passing small (map numberOf ws) ≡ length (map numberOf ws) = sym (ap (passing small) same) ∙ passing-same ws ∙ fit ∙ sym (length-map ws numberOf) in
+        record { least = ordered w .least some; most = ordered w .most; small = record { each = λ i h. member-small (map numberOf ws) i all-small (omega (arith, length-map ws numberOf)) } }
+    by-fit some many false e = tt
+
+    by-count : (orderOf w ≡ 0 → ⊥) → (t : Bool) → eqb (length ws) (n * n) ≡ t → SquareIn (cond t (entriesIn n ws) (otherCount n))
+    by-count some true e = by-fit some (eqb-true (length ws) (n * n) e) (eqb (passing fits ws) (n * n)) refl
+    by-count some false e = tt
+
+    by-order : (t : Bool) → eqb (orderOf w) 0 ≡ t → SquareIn (cond t noOrder (afterOrder n ws))
+    by-order true e = tt
+    by-order false e = by-count (eqb-false (orderOf w) 0 e) (eqb (length ws) (n * n)) refl
 
 -- ---- the output
 

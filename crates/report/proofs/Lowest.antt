@@ -1,68 +1,58 @@
--- Over a power of two the halved fraction has the same value, and no two divides both its numbers.
+-- Divided by their greatest common divisor two numbers have the same ratio, and no number but 1 divides both.
 -- Assumes nothing.
-use mathlib.Core.Path.{_≡_, refl, sym, ap, _∙_}
-use mathlib.Core.Bool.{Bool, true, false, cond, _&&_}
-use Prim.Native.Nat.{ℕ, zero, suc, _*_, _/_, _%_, _^_, _≤_}
-use native.Mathlib.Nat.{mul-assoc, mul-comm, pow-suc}
+use mathlib.Core.Path.{_≡_, refl, sym, ap, _∙_, subst}
+use mathlib.Core.Bool.{Bool, true, false, cond}
+use Prim.Native.Nat.{ℕ, zero, suc, _*_, _/_, _%_, _∣_, _≤_, _<_}
+use native.Mathlib.Nat.{mul-assoc, mul-comm, mod-lt, dvd-refl, dvd-zero, dvd-mod-iff, eq-zero-of-zero-dvd, eq-one-of-dvd-one, pos-of-dvd-of-pos, div-mul-cancel, mul-dvd-mul-right, dvd-of-mul-dvd-mul-right}
 use native.Mathlib.Omega.{arith}
 use lib.Dec.{eqb}
 use borrow.Author.Tests.{eqb-true, eqb-false}
-use Rattle.report.specs.declared.fraction.Ratio.{Ratio}
-use Rattle.report.specs.Report.{ratio, halved, LowestTerms}
+use Rattle.report.specs.Report.{euclid, gcd, reduced, LowestTerms}
 
--- twice both sides
-twice : (o a b u : ℕ) → o * b ≡ a * u → o * (b * 2) ≡ a * 2 * u
-twice o a b u e = sym (mul-assoc o b 2) ∙ ap (λ n. n * 2) e ∙ mul-assoc a u 2 ∙ ap (λ n. a * n) (mul-comm u 2) ∙ sym (mul-assoc a 2 u)
+-- g divides both numbers, and whatever divides both divides g
+record Greatest (a b g : ℕ) : Type 0 where
+  left : g ∣ a
+  right : g ∣ b
+  most : (d : ℕ) → d ∣ a → d ∣ b → d ∣ g
 
--- the value is kept
-kept : (k a b : ℕ) → halved k a b .over * b ≡ a * halved k a b .under
-unfolding halved
-kept zero a b = refl
-kept (suc k) a b = by-over (kept k (a / 2) (b / 2)) (eqb (a % 2) 0) refl
+-- Euclid's steps find it, where there are enough of them
+greatest : (k a b : ℕ) → b ≤ k → Greatest a b (euclid k a b)
+unfolding euclid
+greatest zero a b few =
+    let none : b ≡ 0 = omega arith in
+    record { left = dvd-refl a; right = rw none (dvd-zero a); most = λ d l r. l }
+greatest (suc k) a b few = by-test (λ h. greatest k b (a % b) h) (eqb b 0) refl
   where
-    by-under : halved k (a / 2) (b / 2) .over * (b / 2) ≡ (a / 2) * halved k (a / 2) (b / 2) .under → a % 2 ≡ 0 → (t : Bool) → eqb (b % 2) 0 ≡ t → cond t (halved k (a / 2) (b / 2)) (ratio a b) .over * b ≡ a * cond t (halved k (a / 2) (b / 2)) (ratio a b) .under
-    by-under less even true e =
-        let q = halved k (a / 2) (b / 2) in
-        let a-is : a / 2 * 2 ≡ a = omega arith in
-        let b-even : b % 2 ≡ 0 = eqb-true (b % 2) 0 e in
-        let b-is : b / 2 * 2 ≡ b = omega arith in
-        sym (ap (λ n. q .over * n) b-is) ∙ twice (q .over) (a / 2) (b / 2) (q .under) less ∙ ap (λ n. n * q .under) a-is
-    by-under less even false e = refl
+    by-test : (a % b ≤ k → Greatest b (a % b) (euclid k b (a % b))) → (t : Bool) → eqb b 0 ≡ t → Greatest a b (cond t a (euclid k b (a % b)))
+    by-test less true e =
+        let none : b ≡ 0 = eqb-true b 0 e in
+        record { left = dvd-refl a; right = rw none (dvd-zero a); most = λ d l r. l }
+    by-test turn false e =
+        let less : a % b < b = mod-lt a (omega (arith, eqb-false b 0 e)) in
+        let rest = turn (omega arith) in
+        record { left = dvd-mod-iff _ (rest .left) .0 (rest .right); right = rest .left; most = λ d l r. rest .most d r (dvd-mod-iff _ r .1 l) }
 
-    by-over : halved k (a / 2) (b / 2) .over * (b / 2) ≡ (a / 2) * halved k (a / 2) (b / 2) .under → (t : Bool) → eqb (a % 2) 0 ≡ t → cond (t && eqb (b % 2) 0) (halved k (a / 2) (b / 2)) (ratio a b) .over * b ≡ a * cond (t && eqb (b % 2) 0) (halved k (a / 2) (b / 2)) (ratio a b) .under
-    by-over less true e = by-under less (eqb-true (a % 2) 0 e) (eqb (b % 2) 0) refl
-    by-over less false e = refl
+-- it is zero of two zeros alone
+pub gcd-zero : (a b : ℕ) → gcd a b ≡ 0 → (a ≡ 0) × (b ≡ 0)
+gcd-zero a b none =
+    let g = greatest b a b (omega arith) in
+    (eq-zero-of-zero-dvd (rw none at (g .left)), eq-zero-of-zero-dvd (rw none at (g .right)))
 
--- both are never even
-Odd : Ratio → Type 0
-Odd q = q .over % 2 ≡ 0 → q .under % 2 ≡ 0 → ⊥
-
-odd : (k a b j : ℕ) → b ≡ 2 ^ j → j ≤ k → Odd (halved k a b)
-unfolding halved Odd
-odd zero a b j is few =
-    let none : j ≡ 0 = omega arith in
-    let one : b ≡ 1 = is ∙ ap (λ n. 2 ^ n) none in
-    λ o u. omega arith
-odd (suc k) a b zero is few = by-over (eqb (a % 2) 0)
-  where
-    by-over : (t : Bool) → Odd (cond (t && eqb (b % 2) 0) (halved k (a / 2) (b / 2)) (ratio a b))
-    by-over false = λ o u. omega (arith, is)
-    by-over true = by-under (eqb (b % 2) 0) refl
-      where
-        by-under : (t : Bool) → eqb (b % 2) 0 ≡ t → Odd (cond t (halved k (a / 2) (b / 2)) (ratio a b))
-        by-under true e = λ o u. omega (arith, is, eqb-true (b % 2) 0 e)
-        by-under false e = λ o u. omega (arith, is)
-odd (suc k) a b (suc j) is few = by-over (odd k (a / 2) (b / 2) j (omega (arith, is, pow-suc 2 j)) (omega arith)) (eqb (a % 2) 0) refl
-  where
-    by-under : Odd (halved k (a / 2) (b / 2)) → (t : Bool) → eqb (b % 2) 0 ≡ t → Odd (cond t (halved k (a / 2) (b / 2)) (ratio a b))
-    by-under less true e = less
-    by-under less false e = λ o u. eqb-false (b % 2) 0 e u
-
-    by-over : Odd (halved k (a / 2) (b / 2)) → (t : Bool) → eqb (a % 2) 0 ≡ t → Odd (cond (t && eqb (b % 2) 0) (halved k (a / 2) (b / 2)) (ratio a b))
-    by-over less true e = by-under less (eqb (b % 2) 0) refl
-    by-over less false e = λ o u. eqb-false (a % 2) 0 e o
-
--- so the fraction is in lowest terms
+-- the fraction is in lowest terms
 pub lowest-terms : LowestTerms
-unfolding Odd
-lowest-terms a k few = record { value = kept 63 a (2 ^ k); odd = odd 63 a (2 ^ k) k refl few }
+unfolding reduced
+lowest-terms a b some =
+    let g = greatest b a b (omega arith) in
+    let d = gcd a b in
+    let over : a / d * d ≡ a = div-mul-cancel _ (g .left) in
+    let under : b / d * d ≡ b = div-mul-cancel _ (g .right) in
+    let positive : 0 < d = pos-of-dvd-of-pos (g .right) some in
+    record {
+      value = sym (ap (λ (n : ℕ). a / d * n) under) ∙ ap (λ (n : ℕ). a / d * n) (mul-comm (b / d) d) ∙ sym (mul-assoc (a / d) d (b / d)) ∙ ap (λ (n : ℕ). n * (b / d)) over;
+      coprime = λ e l r. one e d positive (g .most (e * d) (rw over at (mul-dvd-mul-right _ l d)) (rw under at (mul-dvd-mul-right _ r d)));
+    }
+  where
+    one : (e d : ℕ) → 0 < d → e * d ∣ d → e ≡ 1
+    one e d positive h =
+        let is : d ≡ 1 * d = omega arith in
+        eq-one-of-dvd-one (dvd-of-mul-dvd-mul-right {k = d} e {n = 1} positive (subst (λ (n : ℕ). e * d ∣ n) is h))

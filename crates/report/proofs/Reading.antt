@@ -9,11 +9,11 @@ use native.Mathlib.Omega.{arith}
 use lib.Dec.{leb, eqb}
 use lib.ListN.{length, take, drop, getD, length-drop, drop-of-length-le}
 use lib.IntN.{ℤ}
-use lib.Seq.{drop-cons, drop-drop, take-all, take-suc}
-use borrow.Author.Tests.{le-leb, lt-leb, leb-true, leb-false, eq-eqb, ne-eqb}
+use lib.Seq.{drop-cons, drop-drop, take-all, take-suc, length-take-le}
+use borrow.Author.Tests.{le-leb, lt-leb, leb-true, leb-false}
 use Rattle.report.specs.Text.{Bytes}
-use Rattle.report.specs.Words.{all, lead, words, wordsFrom, orderOf, negative, digitsOf, isDigit, isNumber, value, held}
-use Rattle.report.specs.Read.{FirstWord, NextNumber}
+use Rattle.report.specs.Words.{all, passing, isBlank, lead, parts, kept, words, orderOf, negative, digitsOf, isDigit, isNumber, value}
+use Rattle.report.specs.Read.{partsFrom, wordsFrom, held, Skipped, FirstPart, NextPart}
 
 -- ---- the order
 
@@ -68,6 +68,18 @@ member-fails test d l i h e = rw (drop-cons l i d h, e)
 pub members-over : {A : Type 0} (test : A → Bool) (l : List A) (i : ℕ) → length l ≤ i → all test (drop i l) ≡ true
 members-over test l i h = rw (drop-of-length-le l {i = i} h)
 
+-- a member that passes is counted
+pub passing-more : {A : Type 0} (test : A → Bool) (d : A) (l : List A) (i : ℕ) → i < length l → test (getD l i d) ≡ true → passing test (drop i l) ≡ suc (passing test (drop (i + 1) l))
+passing-more test d l i h e = rw (add-one i, drop-cons l i d h, e)
+
+-- one that does not ends the count
+pub passing-ends : {A : Type 0} (test : A → Bool) (d : A) (l : List A) (i : ℕ) → i < length l → test (getD l i d) ≡ false → passing test (drop i l) ≡ 0
+passing-ends test d l i h e = rw (drop-cons l i d h, e)
+
+-- past the end
+pub passing-over : {A : Type 0} (test : A → Bool) (l : List A) (i : ℕ) → length l ≤ i → passing test (drop i l) ≡ 0
+passing-over test l i h = rw (drop-of-length-le l {i = i} h)
+
 -- some digits, and nothing else
 pub number-some : (w : Bytes) (k : ℕ) (r : Bool) → drop k w ≡ digitsOf w → k < length w → r ≡ all isDigit (drop k w) → r ≡ isNumber w
 unfolding isNumber
@@ -98,9 +110,9 @@ pub cap-over : (w : Bytes) (i n : ℕ) → length w ≤ i → n ≤ 1025 → min
 unfolding value
 cap-over w i n h few = rw (drop-of-length-le w {i = i} h) (omega arith)
 
--- ---- the first word
+-- ---- the first part
 
--- some bytes before the first of some words
+-- some bytes before the first of some parts
 abbrev pub join : Bytes → List Bytes → List Bytes
 join p [] = p ∷ []
 join p (w ∷ ws) = (p ++ w) ∷ ws
@@ -114,49 +126,93 @@ join-lead p b (w ∷ ws) = rw (append-assoc p (b ∷ []) w)
 join-none : (ws : List Bytes) → (w : Bytes) (vs : List Bytes) → ws ≡ w ∷ vs → ws ≡ join [] ws
 join-none ws w vs e = rw e
 
--- a line has a first word
-some-word : (s : Bytes) → (w : Bytes) × (ws : List Bytes) × (words s ≡ w ∷ ws)
-unfolding words
-some-word [] = ([], [], refl)
-some-word (b ∷ s) = by-test (eqb b 32) (some-word s)
+-- a line has a first part
+pub some-part : (s : Bytes) → (w : Bytes) × (ws : List Bytes) × (parts s ≡ w ∷ ws)
+unfolding parts
+some-part [] = ([], [], refl)
+some-part (b ∷ s) = by-test (isBlank b) (some-part s)
   where
-    by-test : (t : Bool) → (w : Bytes) × (ws : List Bytes) × (words s ≡ w ∷ ws) → (w : Bytes) × (ws : List Bytes) × (cond t ([] ∷ words s) (lead b (words s)) ≡ w ∷ ws)
-    by-test true rest = ([], words s, refl)
+    by-test : (t : Bool) → (w : Bytes) × (ws : List Bytes) × (parts s ≡ w ∷ ws) → (w : Bytes) × (ws : List Bytes) × (cond t ([] ∷ parts s) (lead b (parts s)) ≡ w ∷ ws)
+    by-test true rest = ([], parts s, refl)
     by-test false rest = (b ∷ rest .0, rest .1, rw (rest .2))
 
--- where the loop stands at place i: no space so far
-pub record NoSpace (s : Bytes) (i : ℕ) : Type 0 where
+-- where the loop stands at place i: no blank so far
+pub record NoBlank (s : Bytes) (i : ℕ) : Type 0 where
   pub within : i ≤ length s
-  pub is : words s ≡ join (take i s) (words (drop i s))
+  pub is : parts s ≡ join (take i s) (parts (drop i s))
 
-pub no-space-yet : (s : Bytes) → NoSpace s 0
-no-space-yet s = let some = some-word s in record { within = omega arith; is = join-none (words s) (some .0) (some .1) (some .2) }
+pub no-blank-yet : (s : Bytes) → NoBlank s 0
+no-blank-yet s = let some = some-part s in record { within = omega arith; is = join-none (parts s) (some .0) (some .1) (some .2) }
 
-pub no-space-turn : (s : Bytes) (i : ℕ) → i < length s → (getD s i 0 ≡ 32 → ⊥) → NoSpace s i → NoSpace s (i + 1)
-unfolding words
-no-space-turn s i h other n =
+pub no-blank-turn : (s : Bytes) (i : ℕ) → i < length s → isBlank (getD s i 0) ≡ false → NoBlank s i → NoBlank s (i + 1)
+unfolding parts
+no-blank-turn s i h other n =
     record {
       within = omega arith;
-      is = n .is ∙ rw (add-one i, drop-cons s i 0 h, ne-eqb (getD s i 0) 32 other, take-suc s i 0 h) (join-lead (take i s) (getD s i 0) (words (drop (suc i) s)));
+      is = n .is ∙ rw (add-one i, drop-cons s i 0 h, other, take-suc s i 0 h) (join-lead (take i s) (getD s i 0) (parts (drop (suc i) s)));
     }
 
-pub space-found : (s : Bytes) (i : ℕ) → i < length s → getD s i 0 ≡ 32 → NoSpace s i → FirstWord s i
-unfolding words wordsFrom
-space-found s i h space n =
+pub blank-found : (s : Bytes) (i : ℕ) → i < length s → isBlank (getD s i 0) ≡ true → NoBlank s i → FirstPart s i
+unfolding parts partsFrom
+blank-found s i h blank n =
     record {
       within = omega arith;
-      is = n .is ∙ rw (drop-cons s i 0 h, eq-eqb (getD s i 0) 32 space, append-nil, le-leb (i + 1) (length s) (omega arith), add-one i);
+      is = n .is ∙ rw (drop-cons s i 0 h, blank, append-nil, le-leb (i + 1) (length s) (omega arith), add-one i);
     }
 
-pub line-over : (s : Bytes) (i : ℕ) → length s ≤ i → NoSpace s i → FirstWord s i
-unfolding words wordsFrom
+pub line-over : (s : Bytes) (i : ℕ) → length s ≤ i → NoBlank s i → FirstPart s i
+unfolding parts partsFrom
 line-over s i h n =
     record {
       within = n .within;
       is = n .is ∙ rw (drop-of-length-le s {i = i} h, append-nil, lt-leb (i + 1) (length s) (omega arith));
     }
 
--- ---- one word after another
+-- ---- blanks in front
+
+-- a part that is a word, and one that is empty
+pub kept-word : (p : Bytes) (ps : List Bytes) → 1 ≤ length p → kept (p ∷ ps) ≡ p ∷ kept ps
+unfolding kept
+kept-word [] ps h = absurd (omega arith)
+kept-word (b ∷ p) ps h = refl
+
+pub kept-empty : (p : Bytes) (ps : List Bytes) → length p < 1 → kept (p ∷ ps) ≡ kept ps
+unfolding kept
+kept-empty [] ps h = refl
+kept-empty (b ∷ p) ps h = absurd (omega arith)
+
+-- where the loop stands at place i: blanks so far
+pub record Blanks (s : Bytes) (i : ℕ) : Type 0 where
+  pub within : i ≤ length s
+  pub is : words s ≡ wordsFrom s i
+
+pub blanks-none : (s : Bytes) → Blanks s 0
+unfolding partsFrom
+blanks-none s = record { within = omega arith; is = rw (le-leb 0 (length s) (omega arith)) }
+
+pub blanks-turn : (s : Bytes) (i : ℕ) → i < length s → isBlank (getD s i 0) ≡ true → Blanks s i → Blanks s (i + 1)
+unfolding partsFrom parts kept
+blanks-turn s i h blank b =
+    record {
+      within = omega arith;
+      is = b .is ∙ rw (le-leb i (length s) (omega arith), le-leb (i + 1) (length s) (omega arith), drop-cons s i 0 h, blank, add-one i);
+    }
+
+pub blanks-end : (s : Bytes) (i : ℕ) → isBlank (getD s i 0) ≡ false → Blanks s i → Skipped s i
+blanks-end s i other b = record { within = b .within; is = b .is; next = λ h. other }
+
+pub blanks-over : (s : Bytes) (i : ℕ) → length s ≤ i → Blanks s i → Skipped s i
+blanks-over s i h b = record { within = b .within; is = b .is; next = λ l. absurd (omega arith) }
+
+-- ---- one part after another
+
+-- a list that begins with no bytes does not begin with some
+first-long : (w : Bytes) {ps qs : List Bytes} → [] ∷ ps ≡ w ∷ qs → 0 < length w → ⊥
+first-long w e h = let z : 0 ≡ length w = ap first-length e in omega arith
+  where
+    first-length : List Bytes → ℕ
+    first-length [] = 0
+    first-length (w ∷ ws) = length w
 
 -- two tests that agree
 pub agree : (a b : ℕ) (k l : ℕ) → (a ≤ k → b ≤ l) → (k < a → l < b) → leb a k ≡ leb b l
@@ -167,9 +223,9 @@ agree a b k l below other = by-test (leb a k) refl
     by-test false e = e ∙ sym (lt-leb b l (other (leb-false a k e)))
 
 -- a place past the start of a part is a place of the line
-part-words : (s : Bytes) (at n : ℕ) → at ≤ length s → wordsFrom (drop at s) (n + 1) ≡ wordsFrom s (at + n + 1)
-unfolding wordsFrom
-part-words s at n h =
+later-parts : (s : Bytes) (at n : ℕ) → at ≤ length s → partsFrom (drop at s) (n + 1) ≡ partsFrom s (at + n + 1)
+unfolding partsFrom
+later-parts s at n h =
     let same : leb (n + 1) (length (drop at s)) ≡ leb (at + n + 1) (length s) = rw length-drop (agree (n + 1) (at + n + 1) (length s - at) (length s) (λ l. omega arith) (λ l. omega arith)) in
     let place : at + (n + 1) ≡ at + n + 1 = omega arith in
     rw (same, drop-drop (n + 1) at s, place)
@@ -178,18 +234,51 @@ part-words s at n h =
 pub rest-is : (s : Bytes) (at : ℕ) → take (length s - at) (drop at s) ≡ drop at s
 rest-is s at = take-all (length s - at) (drop at s) (simp length-drop (omega arith))
 
--- the word at a place
-pub next-number : (s rest : Bytes) (at n : ℕ) (whole : Bool) (number : ℤ) → at ≤ length s → rest ≡ take (length s - at) (drop at s) → FirstWord rest n
-    → whole ≡ isNumber (take n rest) → number ≡ held (take n rest) → NextNumber s at whole number (at + n + 1)
-unfolding wordsFrom
-next-number s rest at n whole number h part first tested read =
-    let all-rest : rest ≡ drop at s = part ∙ rest-is s at in
-    let long : length rest ≡ length s - at = ap length all-rest ∙ length-drop at s in
-    record {
-      word = take n rest;
-      is = rw (le-leb at (length s) h, ← all-rest) (first .is ∙ rw (all-rest) (ap (λ ws. take n (drop at s) ∷ ws) (part-words s at n h)));
-      tested = tested;
-      read = read;
-      later = omega arith;
-      near = omega (arith, first .within);
-    }
+module _ (s rest : Bytes) (at n : ℕ) (h : at ≤ length s) (here : rest ≡ take (length s - at) (drop at s)) (first : FirstPart rest n) where
+  all-rest : rest ≡ drop at s
+  all-rest = here ∙ rest-is s at
+
+  long : length rest ≡ length s - at
+  long = ap length all-rest ∙ length-drop at s
+
+  -- the part at a place, and those after it
+  pub part-here : partsFrom s at ≡ take n rest ∷ partsFrom s (at + n + 1)
+  unfolding partsFrom
+  part-here = rw (le-leb at (length s) h, ← all-rest) (first .is ∙ rw (all-rest) (ap (λ ws. take n (drop at s) ∷ ws) (later-parts s at n h)))
+
+  -- which end one past the line at most
+  pub part-near : at + n + 1 ≤ length s + 1
+  part-near = omega (arith, first .within, long, h)
+
+  -- how long it is
+  pub part-long : length (take n rest) ≡ n
+  part-long = length-take-le n rest (first .within)
+
+  -- as the code holds it
+  pub next-part : (word : Bool) (number : ℤ) → word ≡ leb 1 n → number ≡ held (take n rest) → NextPart s at word number (at + n + 1)
+  next-part word number tested read =
+      record { part = take n rest; is = part-here; tested = rw part-long tested; read = read; later = omega arith; near = part-near }
+
+  module _ (skipped : Skipped s at) where
+    -- after the blanks, a part without bytes is the line's end
+    none-left : n ≡ 0 → at ≡ length s
+    unfolding parts
+    none-left none = by-test (leb (length s) at) refl
+      where
+        by-test : (t : Bool) → leb (length s) at ≡ t → at ≡ length s
+        by-test true e = omega (arith, leb-true (length s) at e, h)
+        by-test false e =
+            let inside : at < length s = leb-false (length s) at e in
+            absurd (not-empty (getD s at 0) (drop (suc at) s) (skipped .next inside) (sym (rw (all-rest, drop-cons s at 0 inside, none) at (first .is))))
+          where
+            not-empty : (b : ℕ) (t : Bytes) → isBlank b ≡ false → {ps : List Bytes} → [] ∷ ps ≡ parts (b ∷ t) → ⊥
+            not-empty b t other e = let some = some-part t in first-long (b ∷ some .0) (rw (other, some .2) at e) (omega arith)
+
+    -- no word in it
+    pub no-word : n ≡ 0 → words s ≡ []
+    unfolding partsFrom parts kept
+    no-word none = skipped .is ∙ rw (none-left none, le-leb (length s) (length s) (omega arith), drop-of-length-le s {i = length s} (omega arith))
+
+    -- the first word
+    pub first-word : 1 ≤ n → words s ≡ take n rest ∷ wordsFrom s (at + n + 1)
+    first-word some = skipped .is ∙ rw part-here (kept-word (take n rest) (partsFrom s (at + n + 1)) (rw part-long some))

@@ -1,7 +1,7 @@
 -- Whole numbers as the code holds them, in 64 bits with a sign, and how they are written.
 -- Assumes nothing.
 use mathlib.Core.Path.{_≡_, sym, ap, _∙_, subst}
-use mathlib.Core.Bool.{Bool, true, false}
+use mathlib.Core.Bool.{Bool, true, false, cond}
 use mathlib.Core.List.{_++_}
 use Prim.Native.Nat.{ℕ, _^_, _≤_, _<_, min}
 use native.Mathlib.Nat.{lt-of-le-of-lt}
@@ -16,7 +16,8 @@ use mir.ValLaws.{toZ-pos}
 use Rattle.engine.proofs.Signed.{back, small-fits, small-back}
 use Rattle.whole.proofs.Ring.{abs-neg}
 use Rattle.exact.specs.Value.{signed}
-use Rattle.report.specs.Words.{negative, digitsOf, value, held as Words·held}
+use Rattle.report.specs.Words.{negative, digitsOf, isNumber, value}
+use Rattle.report.specs.Read.{held as Read·held}
 use Rattle.report.specs.Text.{Bytes, text, decimal, whole}
 
 -- the test below zero, of the number itself
@@ -73,20 +74,32 @@ module _ (w : Bytes) (n : ℕ) (is : n ≡ min 1025 (value 0 (digitsOf w))) wher
   pub read-fits : SFits w64 (pos 0 -ℤ toZ w64 n)
   read-fits = minus-fits n few
 
-  pub read-negative : negative w ≡ true → toZ w64 (ofZ w64 (pos 0 -ℤ toZ w64 n)) ≡ Words·held w
-  read-negative t = rw (minus n few, small-back (negℤ (pos n)) (small n few) (lit< tt), t, is)
+  pub read-negative : isNumber w ≡ true → negative w ≡ true → toZ w64 (ofZ w64 (pos 0 -ℤ toZ w64 n)) ≡ Read·held w
+  unfolding Read·held
+  read-negative number t = rw (minus n few, small-back (negℤ (pos n)) (small n few) (lit< tt), number, t, is)
 
-  pub read-other : negative w ≡ false → toZ w64 n ≡ Words·held w
-  read-other t = rw (toZ-pos w64 n (lt-of-le-of-lt few (lit< tt)), t, is)
+  pub read-other : isNumber w ≡ true → negative w ≡ false → toZ w64 n ≡ Read·held w
+  unfolding Read·held
+  read-other number t = rw (toZ-pos w64 n (lt-of-le-of-lt few (lit< tt)), number, t, is)
 
--- the number of a word as the code holds it is of magnitude at most 1025
-pub held-small : (w : Bytes) → natAbs (Words·held w) ≤ 1025
-held-small w = by-sign (negative w) (min 1025 (value 0 (digitsOf w))) (omega arith)
+-- and any other word as 1025
+pub read-none : (w : Bytes) → isNumber w ≡ false → pos 1025 ≡ Read·held w
+unfolding Read·held
+read-none w e = rw e
+
+-- what the code holds of a word is of magnitude at most 1025
+pub held-small : (w : Bytes) → natAbs (Read·held w) ≤ 1025
+unfolding Read·held
+held-small w = by-test (isNumber w)
   where
     by-sign : (b : Bool) (n : ℕ) → n ≤ 1025 → natAbs (signed b n) ≤ 1025
     by-sign true n h = small n h
     by-sign false n h = h
 
+    by-test : (t : Bool) → natAbs (cond t (signed (negative w) (min 1025 (value 0 (digitsOf w)))) (pos 1025)) ≤ 1025
+    by-test true = by-sign (negative w) (min 1025 (value 0 (digitsOf w))) (omega arith)
+    by-test false = omega arith
+
 -- so it is read back
-pub held-back : (w : Bytes) (z : ℤ) → z ≡ Words·held w → held z ≡ Words·held w
-held-back w z e = rw e (small-back (Words·held w) (held-small w) (lit< tt))
+pub held-back : (w : Bytes) (z : ℤ) → z ≡ Read·held w → held z ≡ Read·held w
+held-back w z e = rw e (small-back (Read·held w) (held-small w) (lit< tt))

@@ -1,8 +1,10 @@
 -- A matrix whose entries stand in a list, column by column, and its entries as floats.
 -- Assumes nothing.
 use mathlib.Core.Path.{_≡_}
+use mathlib.Core.Bool.{Bool}
 use mathlib.Core.List.{List}
 use Prim.Native.Nat.{ℕ, _+_, _*_, _≤_, _<_}
+use lib.Dec.{leb}
 use lib.Ieee.{Float, binary64, ofInt}
 use lib.IntN.{ℤ, pos, natAbs}
 use lib.ListN.{getD}
@@ -13,6 +15,10 @@ use Rattle.engine.specs.Whole.{Floats}
 -- column c, row r of order n stands at c * n + r
 abbrev pub columns : ℕ → List ℤ → Matrix
 columns n list = λ c r. getD list (c * n + r) (pos 0)
+
+-- a whole number of magnitude at most 1024
+abbrev pub small : ℤ → Bool
+small z = leb (natAbs z) 1024
 
 -- the first k numbers are of magnitude at most 1024
 pub record SmallList (k : ℕ) (list : List ℤ) : Type 0 where

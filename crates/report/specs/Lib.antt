@@ -3,4 +3,8 @@ pub mod Written
 pub mod Words
 pub mod Read
 pub mod Entries
+pub mod Line
 pub mod Report
+pub mod Verdict
+pub mod Held
+pub mod Said

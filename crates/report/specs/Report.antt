@@ -1,10 +1,10 @@
--- The report of a line of words: an order, then the entries of a matrix column by column. What is printed is taken from the exact engine's own definitions.
+-- The report of a line of words. What is printed is taken from the exact engine's own definitions.
 -- Assumes nothing.
-use Prim.Native.Nat.{ℕ, zero, suc, _*_, _/_, _%_, _^_, _≤_}
+use Prim.Native.Nat.{ℕ, zero, suc, _*_, _/_, _%_, _∣_, _≤_, _<_}
 use mathlib.Core.Path.{_≡_}
-use mathlib.Core.Bool.{Bool, true, false, cond, _&&_}
-use mathlib.Core.List.{List, [], _∷_, _++_, map}
-use lib.Dec.{leb, eqb}
+use mathlib.Core.Bool.{Bool, true, false, cond}
+use mathlib.Core.List.{[], _++_}
+use lib.Dec.{eqb}
 use lib.IntN.{ℤ, pos, natAbs, _*ℤ_}
 use lib.ListN.{length, take, drop}
 use lib.Signed.{ltZ}
@@ -13,8 +13,9 @@ use Rattle.whole.specs.Order.{signed-sum}
 use Rattle.engine.specs.Engine.{oneBit, cofactorOf}
 use Rattle.report.specs.declared.fraction.Ratio.{Ratio}
 use Rattle.report.specs.Text.{Bytes, text, each, decimal, whole}
-use Rattle.report.specs.Words.{all, words, orderOf, isNumber, numberOf}
+use Rattle.report.specs.Words.{some, words, isHelp}
 use Rattle.report.specs.Entries.{columns}
+use Rattle.report.specs.Line.{Line, noOrder, otherCount, notWhole, matrix, lineOf}
 
 -- ---- fractions
 
@@ -22,14 +23,18 @@ use Rattle.report.specs.Entries.{columns}
 abbrev pub ratio : ℕ → ℕ → Ratio
 ratio a b = record { over = a; under = b }
 
--- both halved as long as both are even, but not more often than k times
-unfoldable pub halved : ℕ → ℕ → ℕ → Ratio
-halved zero a b = ratio a b
-halved (suc k) a b = cond (eqb (a % 2) 0 && eqb (b % 2) 0) (halved k (a / 2) (b / 2)) (ratio a b)
+-- the greatest common divisor by Euclid's steps, in at most k of them
+unfoldable pub euclid : ℕ → ℕ → ℕ → ℕ
+euclid zero a b = a
+euclid (suc k) a b = cond (eqb b 0) a (euclid k b (a % b))
 
--- in lowest terms over a power of two, which is halved to an odd number, and over any other number as it stands
+-- b steps are enough, since each makes the second number smaller
+abbrev pub gcd : ℕ → ℕ → ℕ
+gcd a b = euclid b a b
+
+-- in lowest terms: both divided by their greatest common divisor
 unfoldable pub reduced : ℕ → ℕ → Ratio
-reduced a b = cond (oneBit b) (halved 63 a b) (ratio a b)
+reduced a b = ratio (a / gcd a b) (b / gcd a b)
 
 -- a fraction without its sign: over 1 the number alone
 unfoldable pub ratioText : Ratio → Bytes
@@ -50,6 +55,7 @@ cell true n m s c r = fraction (cofactorOf n m r c) s
 abbrev pub rowOf : Bool → ℕ → Matrix → ℤ → ℕ → Bytes
 rowOf inverse n m s r = each n (λ c. text " " ++ cell inverse n m s c r) ++ text "\n"
 
+-- every row
 unfoldable pub rowsOf : Bool → ℕ → Matrix → ℤ → Bytes
 rowsOf inverse n m s = each n (λ r. rowOf inverse n m s r)
 
@@ -73,19 +79,31 @@ matrixHead = text "the matrix, from entries given column by column:\n"
 abbrev pub sumHead : Bytes
 sumHead = text "its signed sum: "
 
--- document 01's refusals, with their numbers and causes
+-- the refusals of document 01, 'The numbers a refusal carries', that a report has: their numbers and causes
 abbrev pub refusal2 : Bytes
 refusal2 = text "refusal 2: the signed sum is zero, so there is no inverse\n"
 
-abbrev pub refusal6 : Bytes
-refusal6 = text "refusal 6: an entry is not a whole number of magnitude at most 1024\n"
+-- the entry at a place of the list that goes column by column, at the order n
+unfoldable pub refusal6 : ℕ → ℕ → Bytes
+refusal6 n place =
+    text "refusal 6: the entry at column " ++ decimal (place / n) ++ text ", row " ++ decimal (place % n)
+    ++ text " (both counted from 0) is not a whole number of magnitude at most 1024\n"
 
--- what was expected
+-- what was expected in front, and after the order
 abbrev pub orderExpected : Bytes
 orderExpected = text "expected an order first, 2, 3 or 4, then the entries column by column\n"
 
 unfoldable pub entriesExpected : ℕ → Bytes
 entriesExpected n = text "expected " ++ decimal (n * n) ++ text " whole numbers after the order, column by column\n"
+
+-- how to use the tool
+unfoldable pub help : Bytes
+help =
+    text "comesback ORDER ENTRY..: the report of one matrix, and whether what it moves comes back\n"
+    ++ text "comesback: reads one matrix a line, ORDER ENTRY.., from standard input; answers one verdict a line, then the totals\n"
+    ++ text "ORDER is 2, 3 or 4; the entries stand column by column and are whole numbers from -1024 to 1024\n"
+    ++ text "entries are plain numbers: who holds scales as whole sixty-fourths holds offsets so too,\n"
+    ++ text "the last row stays 0, 0, 1, and what comes out is in sixty-fourths\n"
 
 -- ---- the report
 
@@ -99,29 +117,20 @@ sumReport n m s =
     matrixHead ++ rowsOf false n m s ++ sumHead ++ whole s ++ text "\n"
     ++ cond (eqb (natAbs s) 0) refusal2 (inverseReport n m s)
 
+-- the report of a matrix: its own signed sum
 abbrev pub matrixReport : ℕ → Matrix → Bytes
 matrixReport n m = sumReport n m (signed-sum n m)
 
--- a whole number of magnitude at most 1024
-abbrev pub small : ℤ → Bool
-small z = leb (natAbs z) 1024
+-- what a line holds, told in full
+unfoldable pub told : Line → Bytes
+told noOrder = orderExpected
+told (otherCount n) = entriesExpected n
+told (notWhole n place) = refusal6 n place
+told (matrix n zs) = matrixReport n (columns n zs)
 
--- whole numbers: refusal 6 unless each is of magnitude at most 1024
-unfoldable pub numbersReport : ℕ → List ℤ → Bytes
-numbersReport n zs = cond (all small zs) (matrixReport n (columns n zs)) refusal6
-
--- an order and the other words: as many whole numbers as the matrix has entries
-unfoldable pub entriesReport : ℕ → List Bytes → Bytes
-entriesReport n ws = cond (all isNumber ws && eqb (length ws) (n * n)) (numbersReport n (map numberOf ws)) (entriesExpected n)
-
--- the words
-unfoldable pub wordsReport : List Bytes → Bytes
-wordsReport [] = orderExpected
-wordsReport (w ∷ ws) = cond (eqb (orderOf w) 0) orderExpected (entriesReport (orderOf w) ws)
-
--- the line
-abbrev pub reportOf : Bytes → Bytes
-reportOf line = wordsReport (words line)
+-- the line: how to use the tool where --help is among its words, else its report
+unfoldable pub reportOf : Bytes → Bytes
+reportOf line = cond (some isHelp (words line)) help (told (lineOf line))
 
 -- a text at the start of what is lent, as much of it as there is room for, and after it what stood there
 abbrev pub atStart : Bytes → Bytes → Bytes
@@ -133,11 +142,11 @@ atStart before t = take (length before) t ++ drop (length t) before
 abbrev pub EveryReportFits : Type 0
 EveryReportFits = (line : Bytes) → length (reportOf line) ≤ 2048
 
--- the fraction q is a / b, and no two divides both its numbers
+-- the fraction q is a / b, and no number but 1 divides both its numbers
 pub record Lowest (a b : ℕ) (q : Ratio) : Type 0 where
   pub value : q .over * b ≡ a * q .under
-  pub odd : q .over % 2 ≡ 0 → q .under % 2 ≡ 0 → ⊥
+  pub coprime : (d : ℕ) → d ∣ q .over → d ∣ q .under → d ≡ 1
 
--- over a power of two that 64 bits hold the halved fraction is in lowest terms; shown in proofs/Lowest.antt
+-- over any number but zero the fraction is in lowest terms; shown in proofs/Lowest.antt
 abbrev pub LowestTerms : Type 0
-LowestTerms = (a k : ℕ) → k ≤ 63 → Lowest a (2 ^ k) (halved 63 a (2 ^ k))
+LowestTerms = (a b : ℕ) → 0 < b → Lowest a b (reduced a b)

@@ -1,34 +1,81 @@
--- The words of a line: what stands between its spaces. Which words are an order, and which are whole numbers.
+-- The words of a line: what stands between its blanks. Which words are an order, and which are whole numbers.
 -- Assumes nothing.
-use Prim.Native.Nat.{ℕ, _+_, _*_, _-_, min}
-use mathlib.Core.Bool.{Bool, true, false, cond, _&&_}
-use mathlib.Core.List.{List, [], _∷_}
+use Prim.Native.Nat.{ℕ, suc, _+_, _*_, _-_, _≤_}
+use mathlib.Core.Path.{_≡_}
+use mathlib.Core.Bool.{Bool, true, false, cond, _&&_, _||_}
+use mathlib.Core.List.{List, [], _∷_, _++_}
 use lib.Dec.{leb, eqb}
-use lib.ListN.{length, drop}
+use lib.ListN.{length, take}
+use lib.Seq.{sets}
 use lib.IntN.{ℤ}
 use Rattle.exact.specs.Value.{signed}
-use Rattle.report.specs.Text.{Bytes}
+use Rattle.report.specs.Text.{Bytes, text}
+
+-- ---- lists and tests
 
 -- the test passes at every member
 abbrev pub all : {A : Type 0} → (A → Bool) → List A → Bool
 all test [] = true
 all test (x ∷ xs) = test x && all test xs
 
+-- the test passes at some member
+abbrev pub some : {A : Type 0} → (A → Bool) → List A → Bool
+some test [] = false
+some test (x ∷ xs) = test x || some test xs
+
+-- how many members stand before the first at which the test fails; all of them where it fails at none
+abbrev pub passing : {A : Type 0} → (A → Bool) → List A → ℕ
+passing test [] = 0
+passing test (x ∷ xs) = cond (test x) (suc (passing test xs)) 0
+
 -- ---- words
 
--- a byte before the first of some words
+-- a space, a tab, or the return that some systems put before the end of a line
+unfoldable pub isBlank : ℕ → Bool
+isBlank b = eqb b 32 || (eqb b 9 || eqb b 13)
+
+-- a byte before the first of some parts
 abbrev pub lead : ℕ → List Bytes → List Bytes
 lead b [] = (b ∷ []) ∷ []
-lead b (w ∷ ws) = (b ∷ w) ∷ ws
+lead b (p ∷ ps) = (b ∷ p) ∷ ps
 
--- the words of a line, one more than it has spaces: between two spaces that follow each other stands an empty word
-unfoldable pub words : Bytes → List Bytes
-words [] = [] ∷ []
-words (b ∷ s) = cond (eqb b 32) ([] ∷ words s) (lead b (words s))
+-- the parts of a line, one more than it has blanks: between two blanks that follow each other stands an empty one
+unfoldable pub parts : Bytes → List Bytes
+parts [] = [] ∷ []
+parts (b ∷ s) = cond (isBlank b) ([] ∷ parts s) (lead b (parts s))
 
--- the words from a place of the line on; past its end there are none
-unfoldable pub wordsFrom : Bytes → ℕ → List Bytes
-wordsFrom s at = cond (leb at (length s)) (words (drop at s)) []
+-- the parts that are not empty
+unfoldable pub kept : List Bytes → List Bytes
+kept [] = []
+kept ([] ∷ ps) = kept ps
+kept ((b ∷ w) ∷ ps) = (b ∷ w) ∷ kept ps
+
+-- the words of a line: its parts that are not empty
+abbrev pub words : Bytes → List Bytes
+words s = kept (parts s)
+
+-- words as they are put one after another into a line, a blank after each
+abbrev pub joined : List Bytes → Bytes
+joined [] = []
+joined (w ∷ ws) = (w ++ (32 ∷ [])) ++ joined ws
+
+-- the words of some lines, one line after another
+abbrev pub allWords : List Bytes → List Bytes
+allWords [] = []
+allWords (s ∷ ss) = words s ++ allWords ss
+
+-- ---- the word --help
+
+-- the same bytes
+unfoldable pub same : Bytes → Bytes → Bool
+same [] [] = true
+same [] (c ∷ t) = false
+same (b ∷ s) [] = false
+same (b ∷ s) (c ∷ t) = eqb b c && same s t
+
+-- the word asks how to use the tool
+abbrev pub isHelp : Bytes → Bool
+isHelp w = same w (text "--help")
 
 -- ---- an order
 
@@ -67,7 +114,16 @@ value n (b ∷ w) = value (n * 10 + (b - 48)) w
 abbrev pub numberOf : Bytes → ℤ
 numberOf w = signed (negative w) (value 0 (digitsOf w))
 
--- ---- the numbers as the code holds them, each beyond 1024 as 1025
+-- the word is a whole number of magnitude at most 1024
+unfoldable pub fits : Bytes → Bool
+fits w = isNumber w && leb (value 0 (digitsOf w)) 1024
 
-abbrev pub held : Bytes → ℤ
-held w = signed (negative w) (min 1025 (value 0 (digitsOf w)))
+-- ---- what is claimed of these
+
+-- the words of a line that was put together are those of what was put in; shown in proofs/Joining.antt
+abbrev pub JoinedWords : Type 0
+JoinedWords = (ss : List Bytes) → words (joined ss) ≡ allWords ss
+
+-- a word and its blank, put in behind words that were put in before, where there is room for both: the line begins with all of them; shown in proofs/Joining.antt
+abbrev pub WordAdded : Type 0
+WordAdded = (ss : List Bytes) (w l : Bytes) (at : ℕ) → take at l ≡ joined ss → at + (length w + 1) ≤ length l → take (at + (length w + 1)) (sets l at (w ++ (32 ∷ []))) ≡ joined (ss ++ (w ∷ []))

@@ -6,9 +6,8 @@ ghost use Rattle.vector.specs.Vectors.{vector2, vector3, vector4};
 ghost use Rattle.whole.specs.Order.{signed-sum};
 ghost use Rattle.engine.specs.Whole.{floats2, floats3, floats4};
 ghost use Rattle.engine.specs.Engine.{numberOutcome, cofactorOf};
-ghost use Rattle.report.specs.Words.{all};
-ghost use Rattle.report.specs.Report.{small};
-ghost use Rattle.report.specs.Entries.{columns, SmallList, Square, floatAt, AsFloats, numberIn};
+ghost use Rattle.report.specs.Words.{passing};
+ghost use Rattle.report.specs.Entries.{columns, small, SmallList, Square, floatAt, AsFloats, numberIn};
 use engine::NumberAnswer;
 use matrix::Column;
 use matrix::Matrix2;
@@ -90,20 +89,20 @@ fn matrix4(list: [i64; 16]) -> Matrix4
     )
 }
 
-// Whether the first numbers are of magnitude at most 1024.
-pub(crate) fn all_small(list: [i64; 16], count: usize) -> bool
+// How many of the first numbers come before the first that is of magnitude beyond 1024.
+pub(crate) fn small_ones(list: [i64; 16], count: usize) -> usize
     requires { ⌜ (count ≤ 16) × (length list ≡ 16) ⌝ }
-    ensures { λ r. ⌜ r ≡ all small (take count list) ⌝ }
+    ensures { λ r. ⌜ r ≡ passing small (take count list) ⌝ }
 {
     let mut i = 0;
     while i < count {
         let z = list[i];
         if 1024 < engine::magnitude(z) {
-            return false;
+            return i;
         }
         i += 1;
     }
-    true
+    i
 }
 
 // The number that an answer gives, or 0.

@@ -1,4 +1,4 @@
-// A fraction of two whole numbers: its sign, its lowest terms over a power of two, and its text.
+// A fraction of two whole numbers: its sign, its lowest terms, and its text.
 ghost use mathlib.Core.Path.{_≡_};
 ghost use mathlib.Core.Bool.{cond};
 ghost use mathlib.Core.List.{[]};
@@ -8,7 +8,7 @@ ghost use lib.ListN.{length};
 ghost use lib.Signed.{ltZ};
 ghost use Rattle.report.specs.Text.{text as Text·text};
 ghost use Rattle.report.specs.Written.{Wrote};
-ghost use Rattle.report.specs.Report.{halved as Report·halved, reduced as Report·reduced, ratioText, fraction as Report·fraction};
+ghost use Rattle.report.specs.Report.{gcd as Report·gcd, reduced as Report·reduced, ratioText, fraction as Report·fraction};
 use crate::write;
 
 // Two numbers as a fraction.
@@ -17,35 +17,32 @@ pub(crate) struct Ratio {
     pub under: u64,
 }
 
-// Both halved as long as both are even.
-fn halved(a: u64, b: u64) -> Ratio
-    ensures { λ r. ⌜ r ≡ Report·halved 63 a b ⌝ }
+// The greatest common divisor, by Euclid's steps.
+fn gcd(a: u64, b: u64) -> u64
+    ensures { λ r. ⌜ r ≡ Report·gcd a b ⌝ }
 {
-    let mut over = a;
-    let mut under = b;
-    let mut times: usize = 63;
-    while times > 0 {
-        if over % 2 != 0 {
-            return Ratio { over, under };
-        }
-        if under % 2 != 0 {
-            return Ratio { over, under };
-        }
-        over /= 2;
-        under /= 2;
-        times -= 1;
+    let mut x = a;
+    let mut y = b;
+    while y != 0 {
+        let rest = x % y;
+        x = y;
+        y = rest;
     }
-    Ratio { over, under }
+    x
 }
 
-// In lowest terms over a power of two.
+// In lowest terms. Where both numbers are zero there is nothing to divide by.
 fn reduced(a: u64, b: u64) -> Ratio
     ensures { λ r. ⌜ r ≡ Report·reduced a b ⌝ }
 {
-    if engine::one_bit(b) {
-        return halved(a, b);
+    let common = gcd(a, b);
+    if common == 0 {
+        return Ratio { over: a, under: b };
     }
-    Ratio { over: a, under: b }
+    Ratio {
+        over: a / common,
+        under: b / common,
+    }
 }
 
 // A fraction without its sign.

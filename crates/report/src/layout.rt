@@ -6,7 +6,8 @@ ghost use lib.ListN.{length};
 ghost use Rattle.report.specs.Text.{text as Text·text};
 ghost use Rattle.report.specs.Written.{Wrote};
 ghost use Rattle.report.specs.Entries.{columns, Square};
-ghost use Rattle.report.specs.Report.{cell as Report·cell, rowOf, rowsOf, exactness as Report·exactness, comesBack, inverseReport, matrixReport};
+ghost use Rattle.report.specs.Report.{cell as Report·cell, rowOf, rowsOf, exactness as Report·exactness, comesBack, refusal2 as Report·refusal2, inverseReport, sumReport};
+ghost use Rattle.report.specs.Verdict.{sumLine};
 use crate::ask;
 use crate::fraction;
 use crate::write;
@@ -124,12 +125,34 @@ fn inverse(out: &mut [u8], at: usize, list: [i64; 16], n: usize, sum: i64) -> us
     comes_back(out, next, n, exact)
 }
 
-// The matrix and its signed sum, then refusal 2 or the inverse.
-pub(crate) fn matrix(out: &mut [u8], at: usize, list: [i64; 16], n: usize) -> usize
-    requires { ⌜ (at ≤ length (now out)) × Square n list ⌝ }
-    ensures { λ t. ⌜ Wrote (now (out .entry)) at (matrixReport n (columns n list)) (now (out .exit)) t ⌝ }
+// Refusal 2.
+fn refusal2(out: &mut [u8], at: usize) -> usize
+    requires { ⌜ at ≤ length (now out) ⌝ }
+    ensures { λ t. ⌜ Wrote (now (out .entry)) at Report·refusal2 (now (out .exit)) t ⌝ }
 {
-    let sum = ask::signed_sum(list, n);
+    write::text(
+        out,
+        at,
+        b"refusal 2: the signed sum is zero, so there is no inverse\n",
+    )
+}
+
+// The verdict on a matrix with this sum: refusal 2, or whether what it moves comes back.
+pub(crate) fn sum_line(out: &mut [u8], at: usize, n: usize, sum: i64) -> usize
+    requires { ⌜ at ≤ length (now out) ⌝ }
+    ensures { λ t. ⌜ Wrote (now (out .entry)) at (sumLine n sum) (now (out .exit)) t ⌝ }
+{
+    if sum == 0 {
+        return refusal2(out, at);
+    }
+    comes_back(out, at, n, engine::one_bit(engine::magnitude(sum)))
+}
+
+// The matrix and its signed sum, then refusal 2 or the inverse.
+pub(crate) fn matrix(out: &mut [u8], at: usize, list: [i64; 16], n: usize, sum: i64) -> usize
+    requires { ⌜ (at ≤ length (now out)) × Square n list ⌝ }
+    ensures { λ t. ⌜ Wrote (now (out .entry)) at (sumReport n (columns n list) sum) (now (out .exit)) t ⌝ }
+{
     let next = write::text(
         out,
         at,
@@ -140,11 +163,7 @@ pub(crate) fn matrix(out: &mut [u8], at: usize, list: [i64; 16], n: usize) -> us
     let next = write::whole(out, next, sum);
     let next = write::text(out, next, b"\n");
     if sum == 0 {
-        return write::text(
-            out,
-            next,
-            b"refusal 2: the signed sum is zero, so there is no inverse\n",
-        );
+        return refusal2(out, next);
     }
     inverse(out, next, list, n, sum)
 }

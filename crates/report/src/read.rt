@@ -1,33 +1,57 @@
-// Words of a line, read one after the other: the order, and whole numbers up to 1024, each beyond as 1025.
+// Words of a line, read one after the other: the order, and whole numbers up to 1024. Any other word is held as 1025.
 ghost use mathlib.Core.Path.{_≡_};
-ghost use mathlib.Core.Bool.{true};
-ghost use mathlib.Core.List.{map};
-ghost use Prim.Native.Nat.{_+_, _*_, _-_, _≤_, _<_, min};
-ghost use lib.Dec.{eqb};
-ghost use lib.ListN.{length, take, drop};
-ghost use Rattle.report.specs.Words.{all, orderOf, negative as Words·negative, digitsOf, isDigit, isNumber, value, held, wordsFrom};
-ghost use Rattle.report.specs.Read.{FirstWord, NextNumber, Numbers as Read·Numbers};
+ghost use Prim.Native.Nat.{_*_, _+_, _-_, _≤_, _<_, min};
+ghost use lib.ListN.{length, drop};
+ghost use Rattle.report.specs.Words.{all, isBlank, orderOf, negative as Words·negative, digitsOf, isDigit, isNumber, value};
+ghost use Rattle.report.specs.Read.{held, Skipped, FirstPart, NextPart, Numbers as Read·Numbers};
 
-// A word read as a whole number: whether it is one, the number, and where the next word starts.
-pub(crate) struct Number {
-    pub whole: bool,
+// A part of a line: whether it is a word, the number that the word is held as, and where the next part starts.
+pub(crate) struct Part {
+    pub word: bool,
     pub number: i64,
     pub next: usize,
 }
 
-// The numbers of the words that were read, and whether the words are all whole numbers and as many as expected.
+// The numbers of the words that were read, and whether they are as many as expected.
 pub(crate) struct Entries {
     pub good: bool,
     pub list: [i64; 16],
 }
 
-// How long the first word of a line is.
-pub(crate) fn word_length(s: &[u8]) -> usize
-    ensures { λ r. ⌜ FirstWord (now (s .entry)) r ⌝ }
+// Whether a byte is a blank.
+fn is_blank(byte: u8) -> bool
+    ensures { λ r. ⌜ r ≡ isBlank byte ⌝ }
+{
+    if byte == b' ' {
+        return true;
+    }
+    if byte == b'\t' {
+        return true;
+    }
+    byte == b'\r'
+}
+
+// How many blanks stand at the start of a line.
+pub(crate) fn blanks(s: &[u8]) -> usize
+    ensures { λ r. ⌜ Skipped (now (s .entry)) r ⌝ }
 {
     let mut i = 0;
     while i < s.len() {
-        if s[i] == b' ' {
+        if !is_blank(s[i]) {
+            return i;
+        }
+        i += 1;
+    }
+    i
+}
+
+// How long the first part of a line is.
+pub(crate) fn part_length(s: &[u8]) -> usize
+    ensures { λ r. ⌜ FirstPart (now (s .entry)) r ⌝ }
+{
+    let mut i = 0;
+    while i < s.len() {
+        if is_blank(s[i]) {
             return i;
         }
         i += 1;
@@ -142,10 +166,13 @@ fn capped(word: &[u8], from: usize) -> u64
     n
 }
 
-// The number of a word, of magnitude at most 1025.
+// The number that a word is held as, of magnitude at most 1025.
 fn number_of(word: &[u8]) -> i64
     ensures { λ r. ⌜ r ≡ held (now (word .entry)) ⌝ }
 {
+    if !is_number(word) {
+        return 1025;
+    }
     let magnitude = capped(word, digits_start(word)) as i64;
     if negative(word) {
         return 0 - magnitude;
@@ -153,17 +180,17 @@ fn number_of(word: &[u8]) -> i64
     magnitude
 }
 
-// The word at a place, read as a whole number.
-fn number_at(s: &[u8], at: usize) -> Number
+// The part at a place.
+fn part_at(s: &[u8], at: usize) -> Part
     requires { ⌜ at ≤ length (now s) ⌝ }
-    ensures { λ r. ⌜ NextNumber (now (s .entry)) at (r .whole) (r .number) (r .next) ⌝ }
+    ensures { λ r. ⌜ NextPart (now (s .entry)) at (r .word) (r .number) (r .next) ⌝ }
 {
     let rest = &s[at..];
-    let end = word_length(rest);
-    let word = &rest[..end];
-    Number {
-        whole: is_number(word),
-        number: number_of(word),
+    let end = part_length(rest);
+    let part = &rest[..end];
+    Part {
+        word: 1 <= end,
+        number: number_of(part),
         next: at + end + 1,
     }
 }
@@ -177,17 +204,16 @@ pub(crate) fn numbers(s: &[u8], from: usize, count: usize) -> Entries
     let mut at = from;
     let mut i: usize = 0;
     while at <= s.len() {
-        let found = number_at(s, at);
-        if i == count {
-            return Entries { good: false, list };
+        let part = part_at(s, at);
+        if part.word {
+            if i == count {
+                return Entries { good: false, list };
+            }
+            let number = part.number;
+            list[i] = number;
+            i += 1;
         }
-        if !found.whole {
-            return Entries { good: false, list };
-        }
-        let number = found.number;
-        list[i] = number;
-        i += 1;
-        at = found.next;
+        at = part.next;
     }
     Entries {
         good: i == count,

@@ -9,7 +9,7 @@ abbrev Inv-loop : tie.InvT-loop
 Inv-loop all₀ i₀ all i = Unit {0}
 
 abbrev μ-loop : tie.MeasureT-loop
-μ-loop all₀ i₀ all i = 39 - i
+μ-loop all₀ i₀ all i = 49 - i
 
 loop-holds : tie.Need-loop-holds Inv-loop μ-loop
 loop-holds c = tt

@@ -6,9 +6,6 @@ use borrow.Author.Needs.{needs}
 use Rattle.report.proofs.layout.matrix.Statement.{statement}
 use Rattle.report.proofs.layout.matrix.Tie as tie
 
-signed-sum-requires : tie.Need-signed-sum-requires
-signed-sum-requires c κs = search needs
-
 slice-aggregate-text : tie.Need-slice-aggregate-text
 slice-aggregate-text c = search needs
 
@@ -33,11 +30,8 @@ slice-aggregate-text-3 c = search needs
 text-requires-3 : tie.Need-text-requires-3
 text-requires-3 c κs = search needs
 
-slice-aggregate-text-4 : tie.Need-slice-aggregate-text-4
-slice-aggregate-text-4 c = search needs
-
-text-requires-4 : tie.Need-text-requires-4
-text-requires-4 c κs = search needs
+refusal2-requires : tie.Need-refusal2-requires
+refusal2-requires c κs = search needs
 
 same-length : tie.Need-same-length
 same-length c = search needs
@@ -45,15 +39,14 @@ same-length c = search needs
 returns : tie.Need-returns
 returns c =
     let end = c .before .before in
-    let fifth = end .before .before .before .before .before .before in
+    let fifth = end .before .before .before .before .before in
     let fourth = fifth .before .before .before .before .before in
     let third = fourth .before .before .before .before in
     let second = third .before .before .before .before .before in
     let first = second .before .before .before .before in
-    let summed = first .before .before .before in
-    let a = summed .before .before .args in
-    zero-text (a .n) (columns (a .n) (a .list)) (summed .signed-sum .result) (summed .signed-sum .ok) (summed .signed-sum .ensures) (c .before .before .before .before .before .if1 .taken)
-    (then (then (then (then (then (first .text .ensures) (second .rows .ensures)) (third .text2 .ensures)) (fourth .whole .ensures)) (fifth .text3 .ensures)) (end .text4 .ensures))
+    let start = first .before .before .before .before in
+    zero-text (start .args .n) (columns (start .args .n) (start .args .list)) (start .args .sum) (start .fits .sum .sfits) (c .before .before .before .before .if1 .taken)
+    (then (then (then (then (then (first .text .ensures) (second .rows .ensures)) (third .text2 .ensures)) (fourth .whole .ensures)) (fifth .text3 .ensures)) (end .refusal2 .ensures))
 
 inverse-requires : tie.Need-inverse-requires
 inverse-requires c κs = search needs
@@ -69,16 +62,14 @@ returns-2 c =
     let third = fourth .before .before .before .before in
     let second = third .before .before .before .before .before in
     let first = second .before .before .before .before in
-    let summed = first .before .before .before in
-    let a = summed .before .before .args in
-    inverse-follows (a .n) (columns (a .n) (a .list)) (summed .signed-sum .result) (summed .signed-sum .ok) (summed .signed-sum .ensures) (c .before .before .before .before .if1 .left)
+    let start = first .before .before .before .before in
+    inverse-follows (start .args .n) (columns (start .args .n) (start .args .list)) (start .args .sum) (start .fits .sum .sfits) (c .before .before .before .before .if1 .left)
     (then (then (then (then (then (first .text .ensures) (second .rows .ensures)) (third .text2 .ensures)) (fourth .whole .ensures)) (fifth .text3 .ensures)) (end .inverse .ensures))
 
 pub matrix-spec : {M : Type 1} → statement M
 matrix-spec =
     tie.close
     (tie.spec
-    signed-sum-requires
     slice-aggregate-text
     text-requires
     rows-requires
@@ -87,8 +78,7 @@ matrix-spec =
     whole-requires
     slice-aggregate-text-3
     text-requires-3
-    slice-aggregate-text-4
-    text-requires-4
+    refusal2-requires
     same-length
     returns
     inverse-requires
