@@ -5,7 +5,8 @@
  *     cc -Wall -Wextra -std=c99 -Iinclude include/test/migthumo_test.c target/staticlib/libmigthumo.a -o target/c_test
  *     target/c_test
  *
- * Its last line counts the checks; it exits with 1 where one of them failed.
+ * With no Rattle kit leave out the first line, and name prebuilt/x86_64-linux/libmigthumo.a in the second. It is C++11
+ * too (c++ -x c++ -std=c++11). Its last line counts the checks; it exits with 1 where one of them failed.
  */
 #include "migthumo.h"
 
@@ -116,7 +117,7 @@ static void moves(void)
             MIGTHUMO_OUTPUT_LENGTH, out, 6);
 }
 
-/* Determinants and inverses: cases R1 to R6 and R10 of the scope paper. */
+/* Determinants and inverses: cases R1 to R6 and R10 of document 01, 'Reference cases, both sides of each edge'. */
 static void inverses(void)
 {
     const double r1[4] = {3, 5, 1, 2}, inverse1[4] = {2, -5, -1, 3};
@@ -126,6 +127,7 @@ static void inverses(void)
     const double r6[9] = {0, 1, 0, -1, 0, 0, 10, 20, 1}, inverse6[9] = {0, -1, 0, 1, 0, 0, -20, 10, 1};
     const double r10[16] = {2, 0, 0, 0, 0, 2, 0, 0, 0, 0, 2, 0, 4, 6, 8, 1};
     const double inverse10[16] = {0.5, 0, 0, 0, 0, 0.5, 0, 0, 0, 0, 0.5, 0, -2, -3, -4, 1};
+    const double tiny[4] = {1e-200, 0, 0, 1e-200}, decimals[4] = {0.1, 0.3, 0.7, 2.1};
     double out[16] = {0}, one[1] = {0};
 
     answers("R1", migthumo_invert(2, r1, 4, out, 4), MIGTHUMO_GIVEN);
@@ -144,8 +146,12 @@ static void inverses(void)
     equal("R10, inverse", out, inverse10, 16);
     answers("R10, determinant", migthumo_determinant(4, r10, 16, one, 1), MIGTHUMO_GIVEN);
     check("R10, determinant", one[0] == 8);
+    answers("flat as written", migthumo_invert(2, decimals, 4, out, 4), MIGTHUMO_GIVEN);
+    answers("flat as written, determinant", migthumo_determinant(2, decimals, 4, one, 1), MIGTHUMO_GIVEN);
+    check("flat as written, determinant", one[0] != 0);
 
     fill(out, 16);
+    refuses("diagonal of 1e-200", migthumo_invert(2, tiny, 4, out, 4), MIGTHUMO_SINGULAR, out, 16);
     refuses("R3", migthumo_invert(2, r3, 4, out, 4), MIGTHUMO_SINGULAR, out, 16);
     refuses("R4", migthumo_invert(2, r4, 4, out, 4), MIGTHUMO_SINGULAR, out, 16);
     refuses("inverse, order 1", migthumo_invert(1, r3, 1, out, 1), MIGTHUMO_ORDER, out, 16);
@@ -161,7 +167,8 @@ static void arithmetic(void)
     const double a[4] = {1, 0, 1, 1}, b[4] = {1, 1, 0, 1};
     const double ab[4] = {2, 1, 1, 1}, ba[4] = {1, 1, 1, 2}, sum[4] = {2, 1, 1, 2}, difference[4] = {0, -1, 1, 0};
     const double thrice[4] = {3, 6, 9, 12}, twelfths[4] = {12, 6, 4, 3}, halves[4] = {0.5, 1, 1.5, 2};
-    const double turned[4] = {-1, -2, -3, -4};
+    const double turned[4] = {-1, -2, -3, -4}, doubled[4] = {2, 4, 6, 8}, ones[4] = {1, 1, 1, 1};
+    const double squared[4] = {1, 0, 2, 1};
     double out[4] = {0};
 
     answers("product", migthumo_product(2, a, 4, b, 4, out, 4), MIGTHUMO_GIVEN);
@@ -170,6 +177,12 @@ static void arithmetic(void)
     equal("R8", out, ba, 4);
     answers("product, one slice twice", migthumo_product(2, a, 4, a, 4, out, 4), MIGTHUMO_GIVEN);
     check("product, one slice twice", out[2] == 2);
+    answers("sum, one slice twice", migthumo_add(2, counted, 4, counted, 4, out, 4), MIGTHUMO_GIVEN);
+    equal("sum, one slice twice", out, doubled, 4);
+    answers("difference, overlapping", migthumo_subtract(2, counted + 1, 4, counted, 4, out, 4), MIGTHUMO_GIVEN);
+    equal("difference, overlapping", out, ones, 4);
+    answers("vectors, the matrix itself", migthumo_move_vectors(2, a, 4, a, 4, out, 4), MIGTHUMO_GIVEN);
+    equal("vectors, the matrix itself", out, squared, 4);
     answers("sum", migthumo_add(2, a, 4, b, 4, out, 4), MIGTHUMO_GIVEN);
     equal("sum, its numbers", out, sum, 4);
     answers("difference", migthumo_subtract(2, a, 4, b, 4, out, 4), MIGTHUMO_GIVEN);
@@ -339,15 +352,242 @@ static void in_place(void)
     holds("element at row 4, as it was", &m, counted);
 }
 
+/* The matrix without one column and one row. */
+static void without(size_t order, const double *m, size_t column, size_t row, double *out)
+{
+    size_t c, r, i = 0;
+    for (c = 0; c < order; c++)
+        for (r = 0; r < order; r++)
+            if (c != column && r != row)
+                out[i++] = m[c * order + r];
+}
+
+/* The signed sum of whole entries, along row 0: the library's own, worked out apart. */
+static int64_t signed_sum(size_t order, const double *m)
+{
+    double rest[9];
+    int64_t sum = 0;
+    size_t c;
+    if (order == 1)
+        return (int64_t)m[0];
+    for (c = 0; c < order; c++) {
+        without(order, m, c, 0, rest);
+        sum += (c % 2 ? -1 : 1) * (int64_t)m[c * order] * signed_sum(order - 1, rest);
+    }
+    return sum;
+}
+
+/* What `undoable` = 1 entitles to, for one matrix. */
+static void comes_back(const char *what, size_t order, const double *m)
+{
+    const double limit = order == 4 ? 64 : 32768;
+    const double places[7] = {limit, -limit, 1 - limit, 0, limit - 1, -1, 17};
+    const size_t length = order * order, many = 7 * order;
+    double inverse[16] = {0}, out[16] = {0}, identity[16] = {0}, quotients[16] = {0}, rest[9] = {0};
+    double vectors[28] = {0}, there[28] = {0}, back[28] = {0};
+    uint8_t flag[1] = {99};
+    int64_t sum[1] = {99}, cofactor;
+    size_t c, r, i;
+
+    answers(what, migthumo_undoable(order, m, length, flag, 1), MIGTHUMO_GIVEN);
+    check(what, flag[0] == 1);
+    answers(what, migthumo_signed_sum(order, m, length, sum, 1), MIGTHUMO_GIVEN);
+    check(what, sum[0] == signed_sum(order, m));
+
+    answers(what, migthumo_invert(order, m, length, inverse, length), MIGTHUMO_GIVEN);
+    for (c = 0; c < order; c++) {
+        identity[c * order + c] = 1;
+        for (r = 0; r < order; r++) {
+            without(order, m, r, c, rest);
+            cofactor = ((c + r) % 2 ? -1 : 1) * signed_sum(order - 1, rest);
+            quotients[c * order + r] = (double)cofactor / (double)sum[0];
+        }
+    }
+    equal(what, inverse, quotients, length);
+    answers(what, migthumo_product(order, m, length, inverse, length, out, length), MIGTHUMO_GIVEN);
+    equal(what, out, identity, length);
+    answers(what, migthumo_product(order, inverse, length, m, length, out, length), MIGTHUMO_GIVEN);
+    equal(what, out, identity, length);
+
+    for (i = 0; i < many; i++)
+        vectors[i] = places[(i + i / 7) % 7];
+    answers(what, migthumo_move_vectors(order, m, length, vectors, many, there, many), MIGTHUMO_GIVEN);
+    answers(what, migthumo_move_vectors(order, inverse, length, there, many, back, many), MIGTHUMO_GIVEN);
+    equal(what, back, vectors, many);
+    answers(what, migthumo_move_vectors(order, inverse, length, vectors, many, there, many), MIGTHUMO_GIVEN);
+    answers(what, migthumo_move_vectors(order, m, length, there, many, back, many), MIGTHUMO_GIVEN);
+    equal(what, back, vectors, many);
+}
+
+/* Matrices that come back, and one in sixty-fourths. */
+static void undone(void)
+{
+    const double eight[4] = {6, 4, 4, 4}, largest[4] = {1024, 1023, 1023, 1022}, mirrored[4] = {0, 64, 64, 0};
+    const double turned[9] = {0, 1, 0, -1, 0, 0, 1000, -1024, 1}, full[9] = {1, 1, 1, 1, 2, 3, 1, 3, 6};
+    const double sixty_fourths[9] = {32, 0, 0, 0, 32, 0, 320, 640, 1};
+    const double cycle[16] = {0, 1, 0, 0, 0, 0, 1, 0, 0, 0, 0, 1, 2, 0, 0, 0};
+    const double slant[16] = {1024, 0, 0, 0, 1023, -512, 0, 0, -1024, 1021, 2, 0, 1024, 7, -1024, 1};
+    const double point[2] = {4, 6}, moved[2] = {7 * 64, 13 * 64};
+    double out[2] = {0};
+
+    comes_back("a sum of 8", 2, eight);
+    comes_back("entries near 1024", 2, largest);
+    comes_back("a mirror in sixty-fourths", 2, mirrored);
+    comes_back("a quarter turn with an offset", 3, turned);
+    comes_back("a full matrix", 3, full);
+    comes_back("half the size, in sixty-fourths", 3, sixty_fourths);
+    comes_back("a cycle", 4, cycle);
+    comes_back("a slant", 4, slant);
+
+    /* Half of 4 and 5 more, half of 6 and 10 more. */
+    answers("sixty-fourths", migthumo_move_points(3, sixty_fourths, 9, point, 2, out, 2), MIGTHUMO_GIVEN);
+    equal("sixty-fourths, moved", out, moved, 2);
+}
+
+/* The functions over slices of doubles: those that take n*n numbers twice, once and never, and the moves. */
+enum function {
+    PRODUCT, ADD, SUBTRACT,
+    DETERMINANT, INVERT, SCALE, DIVIDE, SCALE_BY, DIVIDE_BY, NEGATE, TRANSPOSE, ROW, DIAGONAL, SWAP_ROWS, SWAP_COLUMNS,
+    SWAP_ELEMENTS, EMBED,
+    FROM_ANGLE, FROM_ANGLE_X, FROM_ANGLE_Y, FROM_ANGLE_Z, FROM_AXIS_ANGLE,
+    MOVE_VECTORS, MOVE_POINTS
+};
+
+/* What is known of each: how many inputs it has, its orders, and the length of its output, by the order. */
+static const struct {
+    const char *name;
+    unsigned inputs;
+    size_t first, last, lengths[5];
+} functions[] = {
+    {"product", 2, 2, 4, {0, 0, 4, 9, 16}}, {"sum", 2, 2, 4, {0, 0, 4, 9, 16}},
+    {"difference", 2, 2, 4, {0, 0, 4, 9, 16}}, {"determinant", 1, 2, 4, {0, 0, 1, 1, 1}},
+    {"inverse", 1, 2, 4, {0, 0, 4, 9, 16}}, {"scale", 1, 2, 4, {0, 0, 4, 9, 16}},
+    {"divide", 1, 2, 4, {0, 0, 4, 9, 16}}, {"scale by", 1, 2, 4, {0, 0, 4, 9, 16}},
+    {"divide by", 1, 2, 4, {0, 0, 4, 9, 16}}, {"negate", 1, 2, 4, {0, 0, 4, 9, 16}},
+    {"transpose", 1, 2, 4, {0, 0, 4, 9, 16}}, {"row", 1, 2, 4, {0, 0, 2, 3, 4}},
+    {"diagonal", 1, 2, 4, {0, 0, 2, 3, 4}}, {"rows", 1, 2, 4, {0, 0, 4, 9, 16}},
+    {"columns", 1, 2, 4, {0, 0, 4, 9, 16}}, {"elements", 1, 2, 4, {0, 0, 4, 9, 16}},
+    {"embed", 1, 2, 3, {0, 0, 9, 16, 0}}, {"angle", 0, 2, 2, {0, 0, 4, 0, 0}},
+    {"angle x", 0, 3, 4, {0, 0, 0, 9, 16}}, {"angle y", 0, 3, 4, {0, 0, 0, 9, 16}},
+    {"angle z", 0, 3, 4, {0, 0, 0, 9, 16}}, {"axis", 0, 3, 4, {0, 0, 0, 9, 16}},
+    {"vectors", 2, 2, 4, {0, 0, 4, 6, 8}}, {"points", 2, 3, 4, {0, 0, 0, 4, 6}}
+};
+
+/* Calls one of them, with what it takes of this. */
+static uint32_t call(enum function f, size_t n, const double *a, size_t a_length, const double *b, size_t b_length,
+                     double *out, size_t length)
+{
+    switch (f) {
+    case PRODUCT: return migthumo_product(n, a, a_length, b, b_length, out, length);
+    case ADD: return migthumo_add(n, a, a_length, b, b_length, out, length);
+    case SUBTRACT: return migthumo_subtract(n, a, a_length, b, b_length, out, length);
+    case DETERMINANT: return migthumo_determinant(n, a, a_length, out, length);
+    case INVERT: return migthumo_invert(n, a, a_length, out, length);
+    case SCALE: return migthumo_scale(n, 3, a, a_length, out, length);
+    case DIVIDE: return migthumo_divide(n, 3, a, a_length, out, length);
+    case SCALE_BY: return migthumo_scale_by(n, a, a_length, 3, out, length);
+    case DIVIDE_BY: return migthumo_divide_by(n, a, a_length, 3, out, length);
+    case NEGATE: return migthumo_negate(n, a, a_length, out, length);
+    case TRANSPOSE: return migthumo_transpose(n, a, a_length, out, length);
+    case ROW: return migthumo_row(n, 1, a, a_length, out, length);
+    case DIAGONAL: return migthumo_diagonal(n, a, a_length, out, length);
+    case SWAP_ROWS: return migthumo_swap_rows(n, 0, 1, a, a_length, out, length);
+    case SWAP_COLUMNS: return migthumo_swap_columns(n, 0, 1, a, a_length, out, length);
+    case SWAP_ELEMENTS: return migthumo_swap_elements(n, 0, 0, 1, 1, a, a_length, out, length);
+    case EMBED: return migthumo_embed(n, n + 1, a, a_length, out, length);
+    case FROM_ANGLE: return migthumo_from_angle(0, 1, out, length);
+    case FROM_ANGLE_X: return migthumo_from_angle_x(n, 0, 1, out, length);
+    case FROM_ANGLE_Y: return migthumo_from_angle_y(n, 0, 1, out, length);
+    case FROM_ANGLE_Z: return migthumo_from_angle_z(n, 0, 1, out, length);
+    case FROM_AXIS_ANGLE: return migthumo_from_axis_angle(n, 0, 0, 1, 0, 1, out, length);
+    case MOVE_VECTORS: return migthumo_move_vectors(n, a, a_length, b, b_length, out, length);
+    case MOVE_POINTS: return migthumo_move_points(n, a, a_length, b, b_length, out, length);
+    }
+    return 99;
+}
+
+/* Every function over doubles, at every order, with each length right, one short, one long, and 0 with null. */
+static void lengths(void)
+{
+    /* Its first 4, 9 and 16 numbers are matrices that have an inverse. */
+    static const double m[17] = {1, 2, 3, 5, 7, 11, 13, 17, 19, 23, 29, 31, 37, 41, 43, 47, 53};
+    double out[17] = {0};
+    unsigned i;
+    size_t n, a, b, length;
+
+    for (i = 0; i < sizeof functions / sizeof *functions; i++) {
+        const enum function f = (enum function)i;
+        const char *name = functions[i].name;
+        for (n = functions[i].first; n <= functions[i].last; n++) {
+            length = functions[i].lengths[n];
+            a = n * n;
+            b = f < MOVE_VECTORS ? a : length;
+            answers(name, call(f, n, m, a, m, b, out, length), MIGTHUMO_GIVEN);
+            fill(out, 17);
+            refuses(name, call(f, n, m, a, m, b, out, length - 1), MIGTHUMO_OUTPUT_LENGTH, out, 17);
+            refuses(name, call(f, n, m, a, m, b, out, length + 1), MIGTHUMO_OUTPUT_LENGTH, out, 17);
+            refuses(name, call(f, n, m, a, m, b, NULL, 0), MIGTHUMO_OUTPUT_LENGTH, out, 17);
+            if (functions[i].inputs >= 1) {
+                refuses(name, call(f, n, m, a - 1, m, b, out, length), MIGTHUMO_INPUT_LENGTH, out, 17);
+                refuses(name, call(f, n, m, a + 1, m, b, out, length), MIGTHUMO_INPUT_LENGTH, out, 17);
+                refuses(name, call(f, n, NULL, 0, m, b, out, length), MIGTHUMO_INPUT_LENGTH, out, 17);
+                refuses(name, call(f, n, NULL, 0, NULL, 0, NULL, 0), MIGTHUMO_INPUT_LENGTH, out, 17);
+            }
+            if (functions[i].inputs >= 2) {
+                refuses(name, call(f, n, m, a, m, b - 1, out, length), MIGTHUMO_INPUT_LENGTH, out, 17);
+                refuses(name, call(f, n, m, a, m, b + 1, out, length), MIGTHUMO_INPUT_LENGTH, out, 17);
+            }
+            if (functions[i].inputs >= 2 && f < MOVE_VECTORS)
+                refuses(name, call(f, n, m, a, NULL, 0, out, length), MIGTHUMO_INPUT_LENGTH, out, 17);
+            if (f >= MOVE_VECTORS) {
+                refuses(name, call(f, n, m, a, NULL, 0, out, length), MIGTHUMO_OUTPUT_LENGTH, out, 17);
+                refuses(name, call(f, n, m, a, NULL, 0, NULL, 0), MIGTHUMO_GIVEN, out, 17);
+            }
+        }
+        fill(out, 17);
+        if (f != FROM_ANGLE) {
+            refuses(name, call(f, functions[i].first - 1, NULL, 0, NULL, 0, NULL, 0), MIGTHUMO_ORDER, out, 17);
+            refuses(name, call(f, functions[i].last + 1, NULL, 0, NULL, 0, NULL, 0), MIGTHUMO_ORDER, out, 17);
+        }
+    }
+}
+
+/* The two functions of the exact engine, likewise. */
+static void exact_lengths(void)
+{
+    int64_t sum[2] = {99, 99};
+    uint8_t flag[2] = {99, 99};
+    size_t n;
+
+    for (n = 2; n <= 4; n++) {
+        answers("sum, output of two", migthumo_signed_sum(n, counted, n * n, sum, 2), MIGTHUMO_OUTPUT_LENGTH);
+        answers("sum, output null", migthumo_signed_sum(n, counted, n * n, NULL, 0), MIGTHUMO_OUTPUT_LENGTH);
+        answers("sum, matrix short", migthumo_signed_sum(n, counted, n * n - 1, sum, 1), MIGTHUMO_INPUT_LENGTH);
+        answers("sum, matrix null", migthumo_signed_sum(n, NULL, 0, sum, 1), MIGTHUMO_INPUT_LENGTH);
+        answers("verdict, output of two", migthumo_undoable(n, counted, n * n, flag, 2), MIGTHUMO_OUTPUT_LENGTH);
+        answers("verdict, output null", migthumo_undoable(n, counted, n * n, NULL, 0), MIGTHUMO_OUTPUT_LENGTH);
+        answers("verdict, matrix short", migthumo_undoable(n, counted, n * n - 1, flag, 1), MIGTHUMO_INPUT_LENGTH);
+        answers("verdict, matrix null", migthumo_undoable(n, NULL, 0, flag, 1), MIGTHUMO_INPUT_LENGTH);
+    }
+    answers("sum, order 5", migthumo_signed_sum(5, NULL, 0, NULL, 0), MIGTHUMO_ORDER);
+    answers("verdict, order 1", migthumo_undoable(1, NULL, 0, NULL, 0), MIGTHUMO_ORDER);
+    check("sums, not written", sum[0] == 99 && sum[1] == 99);
+    check("verdicts, not written", flag[0] == 99 && flag[1] == 99);
+}
+
 int main(void)
 {
+    check("the header's version is the library's", migthumo_version() == MIGTHUMO_VERSION);
     moves();
     inverses();
     arithmetic();
     exact();
+    undone();
     places();
     builders();
     in_place();
+    lengths();
+    exact_lengths();
     printf("%u checks, %u failed\n", checks, failures);
     return failures != 0;
 }
