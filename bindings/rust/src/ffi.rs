@@ -1,12 +1,17 @@
 //! The library's own functions, over flat column-major slices with the order as a number, each safe to call.
 //!
+//! A matrix of order n is n * n numbers, one column after the other; a vector is n numbers. Each function answers `Ok`
+//! with the output written in full, or a [`Refusal`] with the output as it was. Where more than one cause applies, the
+//! first in the order `Order`, `InputLength`, `OutputLength`, `OutOfRange`, `NotWhole`, `Singular` is given. A number
+//! that this crate doesn't know is [`Refusal::Unknown`]; a library of the right version answers none.
+//!
 //! This file holds all of the crate's `unsafe`: the declarations of libmigthumo.a, one safe function over each, and
-//! the flat view of a record. What makes a call safe is the same everywhere: a slice goes over as its own pointer and
-//! its own length, the library tests every length before it reads or writes, it keeps no pointer, and a slice lent for
-//! change overlaps no other. Each function answers `Ok`, or the refusal with the output as it was.
+//! the views of a record as its numbers. What makes a call safe is the same everywhere: a slice goes over as its own
+//! pointer and its own length, the library tests every length before it reads or writes, it keeps no pointer, and a
+//! slice lent for change overlaps no other.
 
 use crate::{Matrix2, Matrix3, Matrix4, Refusal, Vector2, Vector3, Vector4};
-use std::slice;
+use core::{ptr, slice};
 
 // What the library exports: a slice is a pointer and then a length, the answer 0 or a refusal's number.
 extern "C" {
@@ -114,6 +119,7 @@ extern "C" {
     fn migthumo_swap_rows_mut(m: *mut Matrix4, a: usize, b: usize) -> u32;
     fn migthumo_swap_columns_mut(m: *mut Matrix4, a: usize, b: usize) -> u32;
     fn migthumo_swap_elements_mut(m: *mut Matrix4, ac: usize, ar: usize, bc: usize, br: usize) -> u32;
+    fn migthumo_version() -> u32;
 }
 
 /// The library's answer: 0 is given, any other number refused.
@@ -125,10 +131,10 @@ fn answer(number: u32) -> Result<(), Refusal> {
     }
 }
 
-/// The refusal with this number. The library answers no number that has none.
+/// The refusal with this number, known or not.
 #[cold]
 fn refused(number: u32) -> Refusal {
-    Refusal::from_number(number).expect("the library answers 0 to 6")
+    Refusal::from_number(number).unwrap_or(Refusal::Unknown(number))
 }
 
 // ---- records as numbers in a row
@@ -137,46 +143,77 @@ fn refused(number: u32) -> Refusal {
 ///
 /// # Safety
 ///
-/// It is `f64`s and nothing else, without a gap, aligned as they are.
+/// It is `NUMBERS` `f64`s and nothing else, without a gap, aligned as they are.
 pub(crate) unsafe trait Record: Copy {
     /// How many numbers.
     const NUMBERS: usize;
-    /// The record whose numbers are all 0.
-    const ZERO: Self;
+    /// The record whose numbers are all NaN.
+    const NAN: Self;
 }
 
 /// Says so of a record, and has the compiler measure it.
 macro_rules! record {
-    ($Record:ident, $numbers:literal, $zero:expr) => {
+    ($Record:ident, $numbers:literal, $nan:expr) => {
         const _: () = assert!(size_of::<$Record>() == $numbers * size_of::<f64>());
         const _: () = assert!(align_of::<$Record>() == align_of::<f64>());
         // SAFETY: `#[repr(C)]`, made of `f64`s or of such records, and measured above.
         unsafe impl Record for $Record {
             const NUMBERS: usize = $numbers;
-            const ZERO: Self = $zero;
+            const NAN: Self = $nan;
         }
     };
 }
 
-record!(Vector2, 2, Vector2::new(0.0, 0.0));
-record!(Vector3, 3, Vector3::new(0.0, 0.0, 0.0));
-record!(Vector4, 4, Vector4::new(0.0, 0.0, 0.0, 0.0));
-record!(Matrix2, 4, Matrix2::zero());
-record!(Matrix3, 9, Matrix3::zero());
-record!(Matrix4, 16, Matrix4::zero());
+record!(Vector2, 2, Vector2::new(f64::NAN, f64::NAN));
+record!(Vector3, 3, Vector3::new(f64::NAN, f64::NAN, f64::NAN));
+record!(Vector4, 4, Vector4::new(f64::NAN, f64::NAN, f64::NAN, f64::NAN));
+record!(Matrix2, 4, Matrix2::from_cols(Vector2::NAN, Vector2::NAN));
+record!(Matrix3, 9, Matrix3::from_cols(Vector3::NAN, Vector3::NAN, Vector3::NAN));
+record!(Matrix4, 16, Matrix4::from_cols(Vector4::NAN, Vector4::NAN, Vector4::NAN, Vector4::NAN));
+
+// SAFETY: an array is its elements, without a gap, aligned as they are.
+unsafe impl<const N: usize> Record for [f64; N] {
+    const NUMBERS: usize = N;
+    const NAN: Self = [f64::NAN; N];
+}
+
+// SAFETY: as above, twice.
+unsafe impl<const N: usize> Record for [[f64; N]; N] {
+    const NUMBERS: usize = N * N;
+    const NAN: Self = [[f64::NAN; N]; N];
+}
+
+/// The record as another record of as many numbers.
+#[inline]
+pub(crate) fn view<T: Record, U: Record>(record: &T) -> &U {
+    const { assert!(T::NUMBERS == U::NUMBERS) };
+    // SAFETY: both are equally many numbers in a row, aligned alike, and any number may stand in either.
+    unsafe { &*ptr::from_ref(record).cast() }
+}
+
+/// The record as another record of as many numbers, to be written to.
+#[inline]
+pub(crate) fn view_mut<T: Record, U: Record>(record: &mut T) -> &mut U {
+    const { assert!(T::NUMBERS == U::NUMBERS) };
+    // SAFETY: as in `view`; the record is lent for change.
+    unsafe { &mut *ptr::from_mut(record).cast() }
+}
+
+/// The bytes of one number.
+const SIZE: usize = size_of::<f64>();
 
 /// The records' numbers in a row.
 #[inline]
 pub(crate) fn flat<T: Record>(records: &[T]) -> &[f64] {
-    // SAFETY: a record is `NUMBERS` numbers in a row, and records of a slice stand without a gap.
-    unsafe { slice::from_raw_parts(records.as_ptr().cast(), records.len() * T::NUMBERS) }
+    // SAFETY: a record is numbers in a row, records of a slice stand without a gap, and so many fill the slice.
+    unsafe { slice::from_raw_parts(records.as_ptr().cast(), size_of_val(records) / SIZE) }
 }
 
 /// The records' numbers in a row, to be written to.
 #[inline]
 pub(crate) fn flat_mut<T: Record>(records: &mut [T]) -> &mut [f64] {
     // SAFETY: as in `flat`; the records are lent for change, and any number may stand in a record.
-    unsafe { slice::from_raw_parts_mut(records.as_mut_ptr().cast(), records.len() * T::NUMBERS) }
+    unsafe { slice::from_raw_parts_mut(records.as_mut_ptr().cast(), size_of_val(records) / SIZE) }
 }
 
 /// One record's numbers.
@@ -193,7 +230,19 @@ pub(crate) fn numbers_mut<T: Record>(record: &mut T) -> &mut [f64] {
 
 // ---- the functions
 
-/// The matrix times every vector. The output is as long as the vectors, a multiple of the order.
+/// The version of the library that is linked. The build script compares it with [`VERSION`](crate::VERSION).
+///
+/// ```
+/// assert_eq!(migthumo::ffi::version(), 1);
+/// ```
+#[inline]
+#[must_use]
+pub fn version() -> u32 {
+    // SAFETY: it takes nothing, and answers a number.
+    unsafe { migthumo_version() }
+}
+
+/// The matrix times every vector, one vector after the other.
 ///
 /// ```
 /// use migthumo::ffi;
@@ -204,6 +253,12 @@ pub(crate) fn numbers_mut<T: Record>(record: &mut T) -> &mut [f64] {
 /// assert_eq!(out, [0.0, 1.0, -3.0, 2.0]);
 /// # Ok::<(), migthumo::Refusal>(())
 /// ```
+///
+/// # Errors
+///
+/// [`Refusal::Order`] unless the order is 2, 3 or 4; [`Refusal::InputLength`] unless `m` has order * order numbers and
+/// the count of `vectors` is a multiple of the order; [`Refusal::OutputLength`] unless `out` has as many numbers as
+/// `vectors`.
 #[inline]
 pub fn move_vectors(order: usize, m: &[f64], vectors: &[f64], out: &mut [f64]) -> Result<(), Refusal> {
     // SAFETY: each of `m`, `vectors` and `out` goes over with its own length.
@@ -223,6 +278,12 @@ pub fn move_vectors(order: usize, m: &[f64], vectors: &[f64], out: &mut [f64]) -
 /// assert_eq!(out, [11.0, 22.0, 13.0, 24.0]);
 /// # Ok::<(), migthumo::Refusal>(())
 /// ```
+///
+/// # Errors
+///
+/// [`Refusal::Order`] unless the order is 3 or 4; [`Refusal::InputLength`] unless `m` has order * order numbers and the
+/// count of `points` is a multiple of the order less 1; [`Refusal::OutputLength`] unless `out` has as many numbers as
+/// `points`.
 #[inline]
 pub fn move_points(order: usize, m: &[f64], points: &[f64], out: &mut [f64]) -> Result<(), Refusal> {
     // SAFETY: each of `m`, `points` and `out` goes over with its own length.
@@ -241,13 +302,18 @@ pub fn move_points(order: usize, m: &[f64], points: &[f64], out: &mut [f64]) -> 
 /// assert_eq!(out, [1.0]);
 /// # Ok::<(), migthumo::Refusal>(())
 /// ```
+///
+/// # Errors
+///
+/// [`Refusal::Order`] unless the order is 2, 3 or 4; [`Refusal::InputLength`] unless `m` has order * order numbers;
+/// [`Refusal::OutputLength`] unless `out` has 1 number.
 #[inline]
 pub fn determinant(order: usize, m: &[f64], out: &mut [f64]) -> Result<(), Refusal> {
     // SAFETY: each of `m` and `out` goes over with its own length.
     answer(unsafe { migthumo_determinant(order, m.as_ptr(), m.len(), out.as_mut_ptr(), out.len()) })
 }
 
-/// The inverse; [`Refusal::Singular`] where the determinant compares equal to zero.
+/// The inverse.
 ///
 /// ```
 /// use migthumo::{ffi, Refusal};
@@ -259,6 +325,12 @@ pub fn determinant(order: usize, m: &[f64], out: &mut [f64]) -> Result<(), Refus
 /// assert_eq!(out, [2.0, -5.0, -1.0, 3.0]);
 /// # Ok::<(), migthumo::Refusal>(())
 /// ```
+///
+/// # Errors
+///
+/// [`Refusal::Order`] unless the order is 2, 3 or 4; [`Refusal::InputLength`] unless `m` has order * order numbers;
+/// [`Refusal::OutputLength`] unless `out` has order * order numbers; [`Refusal::Singular`] where the determinant
+/// compares equal to zero.
 #[inline]
 pub fn invert(order: usize, m: &[f64], out: &mut [f64]) -> Result<(), Refusal> {
     // SAFETY: each of `m` and `out` goes over with its own length.
@@ -275,6 +347,11 @@ pub fn invert(order: usize, m: &[f64], out: &mut [f64]) -> Result<(), Refusal> {
 /// assert_eq!(out, [1.0, 3.0, 2.0, 4.0]);
 /// # Ok::<(), migthumo::Refusal>(())
 /// ```
+///
+/// # Errors
+///
+/// [`Refusal::Order`] unless the order is 2, 3 or 4; [`Refusal::InputLength`] unless `m` has order * order numbers;
+/// [`Refusal::OutputLength`] unless `out` has order * order numbers.
 #[inline]
 pub fn transpose(order: usize, m: &[f64], out: &mut [f64]) -> Result<(), Refusal> {
     // SAFETY: each of `m` and `out` goes over with its own length.
@@ -291,6 +368,11 @@ pub fn transpose(order: usize, m: &[f64], out: &mut [f64]) -> Result<(), Refusal
 /// assert_eq!(out, [2.0, 1.0, 1.0, 1.0]);
 /// # Ok::<(), migthumo::Refusal>(())
 /// ```
+///
+/// # Errors
+///
+/// [`Refusal::Order`] unless the order is 2, 3 or 4; [`Refusal::InputLength`] unless `a` and `b` have order * order
+/// numbers each; [`Refusal::OutputLength`] unless `out` has order * order numbers.
 #[inline]
 pub fn product(order: usize, a: &[f64], b: &[f64], out: &mut [f64]) -> Result<(), Refusal> {
     // SAFETY: each of `a`, `b` and `out` goes over with its own length.
@@ -307,6 +389,11 @@ pub fn product(order: usize, a: &[f64], b: &[f64], out: &mut [f64]) -> Result<()
 /// assert_eq!(out, [11.0, 22.0, 33.0, 44.0]);
 /// # Ok::<(), migthumo::Refusal>(())
 /// ```
+///
+/// # Errors
+///
+/// [`Refusal::Order`] unless the order is 2, 3 or 4; [`Refusal::InputLength`] unless `a` and `b` have order * order
+/// numbers each; [`Refusal::OutputLength`] unless `out` has order * order numbers.
 #[inline]
 pub fn add(order: usize, a: &[f64], b: &[f64], out: &mut [f64]) -> Result<(), Refusal> {
     // SAFETY: each of `a`, `b` and `out` goes over with its own length.
@@ -323,6 +410,11 @@ pub fn add(order: usize, a: &[f64], b: &[f64], out: &mut [f64]) -> Result<(), Re
 /// assert_eq!(out, [10.0, 20.0, 30.0, 40.0]);
 /// # Ok::<(), migthumo::Refusal>(())
 /// ```
+///
+/// # Errors
+///
+/// [`Refusal::Order`] unless the order is 2, 3 or 4; [`Refusal::InputLength`] unless `a` and `b` have order * order
+/// numbers each; [`Refusal::OutputLength`] unless `out` has order * order numbers.
 #[inline]
 pub fn subtract(order: usize, a: &[f64], b: &[f64], out: &mut [f64]) -> Result<(), Refusal> {
     // SAFETY: each of `a`, `b` and `out` goes over with its own length.
@@ -330,8 +422,6 @@ pub fn subtract(order: usize, a: &[f64], b: &[f64], out: &mut [f64]) -> Result<(
 }
 
 /// The signed sum over all column orders, exact, into an output of one whole number.
-///
-/// [`Refusal::NotWhole`] unless every entry is a whole number of magnitude at most 1024.
 ///
 /// ```
 /// use migthumo::{ffi, Refusal};
@@ -342,13 +432,20 @@ pub fn subtract(order: usize, a: &[f64], b: &[f64], out: &mut [f64]) -> Result<(
 /// assert_eq!(ffi::signed_sum(2, &[0.5, 0.0, 0.0, 1.0], &mut out), Err(Refusal::NotWhole));
 /// # Ok::<(), migthumo::Refusal>(())
 /// ```
+///
+/// # Errors
+///
+/// [`Refusal::Order`] unless the order is 2, 3 or 4; [`Refusal::InputLength`] unless `m` has order * order numbers;
+/// [`Refusal::OutputLength`] unless `out` has 1 number; [`Refusal::NotWhole`] unless every entry is a whole number of
+/// magnitude at most 1024.
 #[inline]
 pub fn signed_sum(order: usize, m: &[f64], out: &mut [i64]) -> Result<(), Refusal> {
     // SAFETY: each of `m` and `out` goes over with its own length.
     answer(unsafe { migthumo_signed_sum(order, m.as_ptr(), m.len(), out.as_mut_ptr(), out.len()) })
 }
 
-/// Whether the magnitude of the signed sum has exactly one bit set, 1 or 0, into an output of one byte.
+/// Whether the magnitude of the signed sum has exactly one bit set, 1 or 0, into an output of one byte. The matrices'
+/// own `undoable` says what a 1 entitles to.
 ///
 /// ```
 /// use migthumo::ffi;
@@ -360,13 +457,19 @@ pub fn signed_sum(order: usize, m: &[f64], out: &mut [i64]) -> Result<(), Refusa
 /// assert_eq!(out, [0]);
 /// # Ok::<(), migthumo::Refusal>(())
 /// ```
+///
+/// # Errors
+///
+/// [`Refusal::Order`] unless the order is 2, 3 or 4; [`Refusal::InputLength`] unless `m` has order * order numbers;
+/// [`Refusal::OutputLength`] unless `out` has 1 byte; [`Refusal::NotWhole`] unless every entry is a whole number of
+/// magnitude at most 1024.
 #[inline]
 pub fn undoable(order: usize, m: &[f64], out: &mut [u8]) -> Result<(), Refusal> {
     // SAFETY: each of `m` and `out` goes over with its own length.
     answer(unsafe { migthumo_undoable(order, m.as_ptr(), m.len(), out.as_mut_ptr(), out.len()) })
 }
 
-/// Rows a and b exchanged; [`Refusal::OutOfRange`] unless both are below the order.
+/// Rows a and b exchanged.
 ///
 /// ```
 /// use migthumo::ffi;
@@ -376,13 +479,19 @@ pub fn undoable(order: usize, m: &[f64], out: &mut [u8]) -> Result<(), Refusal> 
 /// assert_eq!(out, [2.0, 1.0, 4.0, 3.0]);
 /// # Ok::<(), migthumo::Refusal>(())
 /// ```
+///
+/// # Errors
+///
+/// [`Refusal::Order`] unless the order is 2, 3 or 4; [`Refusal::InputLength`] unless `m` has order * order numbers;
+/// [`Refusal::OutputLength`] unless `out` has order * order numbers; [`Refusal::OutOfRange`] unless `a` and `b` are
+/// below the order.
 #[inline]
 pub fn swap_rows(order: usize, a: usize, b: usize, m: &[f64], out: &mut [f64]) -> Result<(), Refusal> {
     // SAFETY: each of `m` and `out` goes over with its own length.
     answer(unsafe { migthumo_swap_rows(order, a, b, m.as_ptr(), m.len(), out.as_mut_ptr(), out.len()) })
 }
 
-/// Columns a and b exchanged; [`Refusal::OutOfRange`] unless both are below the order.
+/// Columns a and b exchanged.
 ///
 /// ```
 /// use migthumo::ffi;
@@ -392,14 +501,19 @@ pub fn swap_rows(order: usize, a: usize, b: usize, m: &[f64], out: &mut [f64]) -
 /// assert_eq!(out, [3.0, 4.0, 1.0, 2.0]);
 /// # Ok::<(), migthumo::Refusal>(())
 /// ```
+///
+/// # Errors
+///
+/// [`Refusal::Order`] unless the order is 2, 3 or 4; [`Refusal::InputLength`] unless `m` has order * order numbers;
+/// [`Refusal::OutputLength`] unless `out` has order * order numbers; [`Refusal::OutOfRange`] unless `a` and `b` are
+/// below the order.
 #[inline]
 pub fn swap_columns(order: usize, a: usize, b: usize, m: &[f64], out: &mut [f64]) -> Result<(), Refusal> {
     // SAFETY: each of `m` and `out` goes over with its own length.
     answer(unsafe { migthumo_swap_columns(order, a, b, m.as_ptr(), m.len(), out.as_mut_ptr(), out.len()) })
 }
 
-/// The entries at column ac, row ar and at column bc, row br exchanged; [`Refusal::OutOfRange`] unless all four are below
-/// the order.
+/// The entries at column ac, row ar and at column bc, row br exchanged.
 ///
 /// ```
 /// use migthumo::ffi;
@@ -409,6 +523,12 @@ pub fn swap_columns(order: usize, a: usize, b: usize, m: &[f64], out: &mut [f64]
 /// assert_eq!(out, [1.0, 3.0, 2.0, 4.0]);
 /// # Ok::<(), migthumo::Refusal>(())
 /// ```
+///
+/// # Errors
+///
+/// [`Refusal::Order`] unless the order is 2, 3 or 4; [`Refusal::InputLength`] unless `m` has order * order numbers;
+/// [`Refusal::OutputLength`] unless `out` has order * order numbers; [`Refusal::OutOfRange`] unless all four places are
+/// below the order.
 #[inline]
 pub fn swap_elements(
     order: usize,
@@ -423,7 +543,7 @@ pub fn swap_elements(
     answer(unsafe { migthumo_swap_elements(order, ac, ar, bc, br, m.as_ptr(), m.len(), out.as_mut_ptr(), out.len()) })
 }
 
-/// Row r; [`Refusal::OutOfRange`] unless it is below the order.
+/// Row r.
 ///
 /// ```
 /// use migthumo::ffi;
@@ -433,6 +553,12 @@ pub fn swap_elements(
 /// assert_eq!(out, [2.0, 4.0]);
 /// # Ok::<(), migthumo::Refusal>(())
 /// ```
+///
+/// # Errors
+///
+/// [`Refusal::Order`] unless the order is 2, 3 or 4; [`Refusal::InputLength`] unless `m` has order * order numbers;
+/// [`Refusal::OutputLength`] unless `out` has as many numbers as the order; [`Refusal::OutOfRange`] unless `r` is below
+/// the order.
 #[inline]
 pub fn row(order: usize, r: usize, m: &[f64], out: &mut [f64]) -> Result<(), Refusal> {
     // SAFETY: each of `m` and `out` goes over with its own length.
@@ -449,6 +575,11 @@ pub fn row(order: usize, r: usize, m: &[f64], out: &mut [f64]) -> Result<(), Ref
 /// assert_eq!(out, [1.0, 4.0]);
 /// # Ok::<(), migthumo::Refusal>(())
 /// ```
+///
+/// # Errors
+///
+/// [`Refusal::Order`] unless the order is 2, 3 or 4; [`Refusal::InputLength`] unless `m` has order * order numbers;
+/// [`Refusal::OutputLength`] unless `out` has as many numbers as the order.
 #[inline]
 pub fn diagonal(order: usize, m: &[f64], out: &mut [f64]) -> Result<(), Refusal> {
     // SAFETY: each of `m` and `out` goes over with its own length.
@@ -465,6 +596,11 @@ pub fn diagonal(order: usize, m: &[f64], out: &mut [f64]) -> Result<(), Refusal>
 /// assert_eq!(out, [3.0, 6.0, 9.0, 12.0]);
 /// # Ok::<(), migthumo::Refusal>(())
 /// ```
+///
+/// # Errors
+///
+/// [`Refusal::Order`] unless the order is 2, 3 or 4; [`Refusal::InputLength`] unless `m` has order * order numbers;
+/// [`Refusal::OutputLength`] unless `out` has order * order numbers.
 #[inline]
 pub fn scale(order: usize, s: f64, m: &[f64], out: &mut [f64]) -> Result<(), Refusal> {
     // SAFETY: each of `m` and `out` goes over with its own length.
@@ -481,6 +617,11 @@ pub fn scale(order: usize, s: f64, m: &[f64], out: &mut [f64]) -> Result<(), Ref
 /// assert_eq!(out, [12.0, 6.0, 4.0, 3.0]);
 /// # Ok::<(), migthumo::Refusal>(())
 /// ```
+///
+/// # Errors
+///
+/// [`Refusal::Order`] unless the order is 2, 3 or 4; [`Refusal::InputLength`] unless `m` has order * order numbers;
+/// [`Refusal::OutputLength`] unless `out` has order * order numbers.
 #[inline]
 pub fn divide(order: usize, s: f64, m: &[f64], out: &mut [f64]) -> Result<(), Refusal> {
     // SAFETY: each of `m` and `out` goes over with its own length.
@@ -497,6 +638,11 @@ pub fn divide(order: usize, s: f64, m: &[f64], out: &mut [f64]) -> Result<(), Re
 /// assert_eq!(out, [3.0, 6.0, 9.0, 12.0]);
 /// # Ok::<(), migthumo::Refusal>(())
 /// ```
+///
+/// # Errors
+///
+/// [`Refusal::Order`] unless the order is 2, 3 or 4; [`Refusal::InputLength`] unless `m` has order * order numbers;
+/// [`Refusal::OutputLength`] unless `out` has order * order numbers.
 #[inline]
 pub fn scale_by(order: usize, m: &[f64], s: f64, out: &mut [f64]) -> Result<(), Refusal> {
     // SAFETY: each of `m` and `out` goes over with its own length.
@@ -513,6 +659,11 @@ pub fn scale_by(order: usize, m: &[f64], s: f64, out: &mut [f64]) -> Result<(), 
 /// assert_eq!(out, [0.5, 1.0, 1.5, 2.0]);
 /// # Ok::<(), migthumo::Refusal>(())
 /// ```
+///
+/// # Errors
+///
+/// [`Refusal::Order`] unless the order is 2, 3 or 4; [`Refusal::InputLength`] unless `m` has order * order numbers;
+/// [`Refusal::OutputLength`] unless `out` has order * order numbers.
 #[inline]
 pub fn divide_by(order: usize, m: &[f64], s: f64, out: &mut [f64]) -> Result<(), Refusal> {
     // SAFETY: each of `m` and `out` goes over with its own length.
@@ -529,6 +680,11 @@ pub fn divide_by(order: usize, m: &[f64], s: f64, out: &mut [f64]) -> Result<(),
 /// assert_eq!(out, [-1.0, 2.0, -3.0, 4.0]);
 /// # Ok::<(), migthumo::Refusal>(())
 /// ```
+///
+/// # Errors
+///
+/// [`Refusal::Order`] unless the order is 2, 3 or 4; [`Refusal::InputLength`] unless `m` has order * order numbers;
+/// [`Refusal::OutputLength`] unless `out` has order * order numbers.
 #[inline]
 pub fn negate(order: usize, m: &[f64], out: &mut [f64]) -> Result<(), Refusal> {
     // SAFETY: each of `m` and `out` goes over with its own length.
@@ -545,6 +701,11 @@ pub fn negate(order: usize, m: &[f64], out: &mut [f64]) -> Result<(), Refusal> {
 /// assert_eq!(out, [1.0, 2.0, 0.0, 3.0, 4.0, 0.0, 0.0, 0.0, 1.0]);
 /// # Ok::<(), migthumo::Refusal>(())
 /// ```
+///
+/// # Errors
+///
+/// [`Refusal::Order`] unless (`order`, `to`) is (2, 3), (2, 4) or (3, 4); [`Refusal::InputLength`] unless `m` has order
+/// * order numbers; [`Refusal::OutputLength`] unless `out` has to * to numbers.
 #[inline]
 pub fn embed(order: usize, to: usize, m: &[f64], out: &mut [f64]) -> Result<(), Refusal> {
     // SAFETY: each of `m` and `out` goes over with its own length.
@@ -561,6 +722,10 @@ pub fn embed(order: usize, to: usize, m: &[f64], out: &mut [f64]) -> Result<(), 
 /// assert_eq!(out, [0.0, 1.0, -1.0, 0.0]);
 /// # Ok::<(), migthumo::Refusal>(())
 /// ```
+///
+/// # Errors
+///
+/// [`Refusal::OutputLength`] unless `out` has 4 numbers.
 #[inline]
 pub fn from_angle(s: f64, c: f64, out: &mut [f64]) -> Result<(), Refusal> {
     // SAFETY: `out` goes over with its own length.
@@ -577,6 +742,10 @@ pub fn from_angle(s: f64, c: f64, out: &mut [f64]) -> Result<(), Refusal> {
 /// assert_eq!(out, [1.0, 0.0, 0.0, 0.0, 0.0, 1.0, 0.0, -1.0, 0.0]);
 /// # Ok::<(), migthumo::Refusal>(())
 /// ```
+///
+/// # Errors
+///
+/// [`Refusal::Order`] unless the order is 3 or 4; [`Refusal::OutputLength`] unless `out` has order * order numbers.
 #[inline]
 pub fn from_angle_x(order: usize, s: f64, c: f64, out: &mut [f64]) -> Result<(), Refusal> {
     // SAFETY: `out` goes over with its own length.
@@ -593,6 +762,10 @@ pub fn from_angle_x(order: usize, s: f64, c: f64, out: &mut [f64]) -> Result<(),
 /// assert_eq!(out, [0.0, 0.0, -1.0, 0.0, 1.0, 0.0, 1.0, 0.0, 0.0]);
 /// # Ok::<(), migthumo::Refusal>(())
 /// ```
+///
+/// # Errors
+///
+/// [`Refusal::Order`] unless the order is 3 or 4; [`Refusal::OutputLength`] unless `out` has order * order numbers.
 #[inline]
 pub fn from_angle_y(order: usize, s: f64, c: f64, out: &mut [f64]) -> Result<(), Refusal> {
     // SAFETY: `out` goes over with its own length.
@@ -609,6 +782,10 @@ pub fn from_angle_y(order: usize, s: f64, c: f64, out: &mut [f64]) -> Result<(),
 /// assert_eq!(out, [0.0, 1.0, 0.0, -1.0, 0.0, 0.0, 0.0, 0.0, 1.0]);
 /// # Ok::<(), migthumo::Refusal>(())
 /// ```
+///
+/// # Errors
+///
+/// [`Refusal::Order`] unless the order is 3 or 4; [`Refusal::OutputLength`] unless `out` has order * order numbers.
 #[inline]
 pub fn from_angle_z(order: usize, s: f64, c: f64, out: &mut [f64]) -> Result<(), Refusal> {
     // SAFETY: `out` goes over with its own length.
@@ -626,13 +803,17 @@ pub fn from_angle_z(order: usize, s: f64, c: f64, out: &mut [f64]) -> Result<(),
 /// assert_eq!(out, [0.0, 1.0, 0.0, -1.0, 0.0, 0.0, 0.0, 0.0, 1.0]);
 /// # Ok::<(), migthumo::Refusal>(())
 /// ```
+///
+/// # Errors
+///
+/// [`Refusal::Order`] unless the order is 3 or 4; [`Refusal::OutputLength`] unless `out` has order * order numbers.
 #[inline]
 pub fn from_axis_angle(order: usize, x: f64, y: f64, z: f64, s: f64, c: f64, out: &mut [f64]) -> Result<(), Refusal> {
     // SAFETY: `out` goes over with its own length.
     answer(unsafe { migthumo_from_axis_angle(order, x, y, z, s, c, out.as_mut_ptr(), out.len()) })
 }
 
-/// Rows a and b of the lent matrix exchanged; [`Refusal::OutOfRange`] unless both are below 4.
+/// Rows a and b of the lent matrix exchanged.
 ///
 /// ```
 /// use migthumo::{ffi, Matrix4};
@@ -642,13 +823,17 @@ pub fn from_axis_angle(order: usize, x: f64, y: f64, z: f64, s: f64, c: f64, out
 /// assert_eq!(m[0][3], 1.0);
 /// # Ok::<(), migthumo::Refusal>(())
 /// ```
+///
+/// # Errors
+///
+/// [`Refusal::OutOfRange`], and the matrix as it was, unless `a` and `b` are below 4.
 #[inline]
 pub fn swap_rows_mut(m: &mut Matrix4, a: usize, b: usize) -> Result<(), Refusal> {
     // SAFETY: `m` is a matrix that is lent for change.
     answer(unsafe { migthumo_swap_rows_mut(m, a, b) })
 }
 
-/// Columns a and b of the lent matrix exchanged; [`Refusal::OutOfRange`] unless both are below 4.
+/// Columns a and b of the lent matrix exchanged.
 ///
 /// ```
 /// use migthumo::{ffi, Matrix4};
@@ -658,14 +843,17 @@ pub fn swap_rows_mut(m: &mut Matrix4, a: usize, b: usize) -> Result<(), Refusal>
 /// assert_eq!(m[0][3], 1.0);
 /// # Ok::<(), migthumo::Refusal>(())
 /// ```
+///
+/// # Errors
+///
+/// [`Refusal::OutOfRange`], and the matrix as it was, unless `a` and `b` are below 4.
 #[inline]
 pub fn swap_columns_mut(m: &mut Matrix4, a: usize, b: usize) -> Result<(), Refusal> {
     // SAFETY: `m` is a matrix that is lent for change.
     answer(unsafe { migthumo_swap_columns_mut(m, a, b) })
 }
 
-/// The entries at column ac, row ar and at column bc, row br of the lent matrix exchanged; [`Refusal::OutOfRange`] unless
-/// all four are below 4.
+/// The entries at column ac, row ar and at column bc, row br of the lent matrix exchanged.
 ///
 /// ```
 /// use migthumo::{ffi, Matrix4};
@@ -675,8 +863,26 @@ pub fn swap_columns_mut(m: &mut Matrix4, a: usize, b: usize) -> Result<(), Refus
 /// assert_eq!(m[0][3], 1.0);
 /// # Ok::<(), migthumo::Refusal>(())
 /// ```
+///
+/// # Errors
+///
+/// [`Refusal::OutOfRange`], and the matrix as it was, unless all four places are below 4.
 #[inline]
 pub fn swap_elements_mut(m: &mut Matrix4, ac: usize, ar: usize, bc: usize, br: usize) -> Result<(), Refusal> {
     // SAFETY: `m` is a matrix that is lent for change.
     answer(unsafe { migthumo_swap_elements_mut(m, ac, ar, bc, br) })
+}
+
+#[cfg(test)]
+mod tests {
+    use super::*;
+
+    #[test]
+    fn every_answer_is_a_value() {
+        assert_eq!(answer(0), Ok(()));
+        assert_eq!(answer(2), Err(Refusal::Singular));
+        for number in [7, 11, 255, 267, u32::MAX] {
+            assert_eq!(answer(number), Err(Refusal::Unknown(number)));
+        }
+    }
 }

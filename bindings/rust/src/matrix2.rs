@@ -1,7 +1,7 @@
 //! Matrices of order 2.
 
-use crate::operators::{assigning, between, operators, with_number};
-use crate::square::{asked, given, number, square, swaps};
+use crate::operators::{assigning, between, folding, operators, with_number};
+use crate::square::{asked, given, square, swaps, views};
 use crate::vector::not_below;
 use crate::{ffi, Refusal, Vector2};
 
@@ -45,6 +45,7 @@ impl Matrix2 {
     /// assert_eq!(Matrix2::new(1.0, 2.0, 3.0, 4.0).y, Vector2::new(3.0, 4.0));
     /// ```
     #[inline]
+    #[must_use]
     pub const fn new(c0r0: f64, c0r1: f64, c1r0: f64, c1r1: f64) -> Self {
         Self::from_cols(Vector2::new(c0r0, c0r1), Vector2::new(c1r0, c1r1))
     }
@@ -58,6 +59,7 @@ impl Matrix2 {
     /// assert_eq!(m, Matrix2::new(1.0, 2.0, 3.0, 4.0));
     /// ```
     #[inline]
+    #[must_use]
     pub const fn from_cols(c0: Vector2, c1: Vector2) -> Self {
         Self { x: c0, y: c1 }
     }
@@ -70,6 +72,7 @@ impl Matrix2 {
     /// assert_eq!(Matrix2::from_value(3.0), Matrix2::new(3.0, 0.0, 0.0, 3.0));
     /// ```
     #[inline]
+    #[must_use]
     pub const fn from_value(value: f64) -> Self {
         Self::new(value, 0.0, 0.0, value)
     }
@@ -82,6 +85,7 @@ impl Matrix2 {
     /// assert_eq!(Matrix2::from_diagonal(Vector2::new(3.0, 4.0)), Matrix2::new(3.0, 0.0, 0.0, 4.0));
     /// ```
     #[inline]
+    #[must_use]
     pub const fn from_diagonal(value: Vector2) -> Self {
         Self::new(value.x, 0.0, 0.0, value.y)
     }
@@ -94,6 +98,7 @@ impl Matrix2 {
     /// assert_eq!(Matrix2::from_scale(3.0), Matrix2::from_value(3.0));
     /// ```
     #[inline]
+    #[must_use]
     pub const fn from_scale(value: f64) -> Self {
         Self::from_value(value)
     }
@@ -107,11 +112,12 @@ impl Matrix2 {
     /// assert_eq!(quarter * Vector2::new(1.0, 0.0), Vector2::new(0.0, 1.0));
     /// ```
     #[inline]
+    #[must_use]
     pub fn from_angle(sine: f64, cosine: f64) -> Self {
         given(|out| ffi::from_angle(sine, cosine, out))
     }
 }
 
-square!(Matrix2, Vector2, 2, { x: 0, y: 1 }, "use migthumo::{Matrix2 as Matrix, Vector2 as Vector};");
+square!(Matrix2, Vector2, 2, { x: 0, y: 1 }, 32768, "use migthumo::{Matrix2 as Matrix, Vector2 as Vector};");
 swaps!(Matrix2, "use migthumo::Matrix2 as Matrix;");
 operators!(Matrix2, Vector2, 2);

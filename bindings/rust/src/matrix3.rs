@@ -1,7 +1,7 @@
 //! Matrices of order 3.
 
-use crate::operators::{assigning, between, operators, with_number};
-use crate::square::{asked, given, number, space, square, swaps};
+use crate::operators::{assigning, between, folding, operators, with_number};
+use crate::square::{asked, given, space, square, swaps, views};
 use crate::vector::not_below;
 use crate::{ffi, Matrix2, Refusal, Vector2, Vector3};
 
@@ -48,6 +48,7 @@ impl Matrix3 {
     /// assert_eq!(m.y, Vector3::new(4.0, 5.0, 6.0));
     /// ```
     #[inline]
+    #[must_use]
     #[rustfmt::skip]
     #[allow(clippy::too_many_arguments)]
     pub const fn new(
@@ -71,6 +72,7 @@ impl Matrix3 {
     /// assert_eq!(Matrix3::from_cols(c1, c1, c1)[2][0], 4.0);
     /// ```
     #[inline]
+    #[must_use]
     pub const fn from_cols(c0: Vector3, c1: Vector3, c2: Vector3) -> Self {
         Self { x: c0, y: c1, z: c2 }
     }
@@ -83,6 +85,7 @@ impl Matrix3 {
     /// assert_eq!(Matrix3::from_value(3.0), Matrix3::from_diagonal(Vector3::new(3.0, 3.0, 3.0)));
     /// ```
     #[inline]
+    #[must_use]
     pub const fn from_value(value: f64) -> Self {
         Self::from_diagonal(Vector3::new(value, value, value))
     }
@@ -96,6 +99,7 @@ impl Matrix3 {
     /// assert_eq!(m, Matrix3::from([[3.0, 0.0, 0.0], [0.0, 4.0, 0.0], [0.0, 0.0, 5.0]]));
     /// ```
     #[inline]
+    #[must_use]
     #[rustfmt::skip]
     pub const fn from_diagonal(value: Vector3) -> Self {
         Self::new(
@@ -113,6 +117,7 @@ impl Matrix3 {
     /// assert_eq!(Matrix3::from_translation(Vector2::new(10.0, 20.0)).z, Vector3::new(10.0, 20.0, 1.0));
     /// ```
     #[inline]
+    #[must_use]
     #[rustfmt::skip]
     pub const fn from_translation(v: Vector2) -> Self {
         Self::new(
@@ -130,6 +135,7 @@ impl Matrix3 {
     /// assert_eq!(Matrix3::from_scale(3.0), Matrix3::from_diagonal(Vector3::new(3.0, 3.0, 1.0)));
     /// ```
     #[inline]
+    #[must_use]
     pub const fn from_scale(value: f64) -> Self {
         Self::from_nonuniform_scale(value, value)
     }
@@ -142,6 +148,7 @@ impl Matrix3 {
     /// assert_eq!(Matrix3::from_nonuniform_scale(3.0, 4.0), Matrix3::from_diagonal(Vector3::new(3.0, 4.0, 1.0)));
     /// ```
     #[inline]
+    #[must_use]
     pub const fn from_nonuniform_scale(x: f64, y: f64) -> Self {
         Self::from_diagonal(Vector3::new(x, y, 1.0))
     }
@@ -162,7 +169,7 @@ impl From<Matrix2> for Matrix3 {
     }
 }
 
-square!(Matrix3, Vector3, 3, { x: 0, y: 1, z: 2 }, "use migthumo::{Matrix3 as Matrix, Vector3 as Vector};");
+square!(Matrix3, Vector3, 3, { x: 0, y: 1, z: 2 }, 32768, "use migthumo::{Matrix3 as Matrix, Vector3 as Vector};");
 swaps!(Matrix3, "use migthumo::Matrix3 as Matrix;");
 space!(Matrix3, "use migthumo::Matrix3 as Matrix;");
 operators!(Matrix3, Vector3, 3);

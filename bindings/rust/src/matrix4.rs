@@ -1,7 +1,7 @@
 //! Matrices of order 4.
 
-use crate::operators::{assigning, between, operators, with_number};
-use crate::square::{asked, given, number, space, square};
+use crate::operators::{assigning, between, folding, operators, with_number};
+use crate::square::{asked, given, space, square, views};
 use crate::vector::not_below;
 use crate::{ffi, Matrix2, Matrix3, Refusal, Vector3, Vector4};
 
@@ -55,6 +55,7 @@ impl Matrix4 {
     /// assert_eq!(m.y, Vector4::new(5.0, 6.0, 7.0, 8.0));
     /// ```
     #[inline]
+    #[must_use]
     #[rustfmt::skip]
     #[allow(clippy::too_many_arguments)]
     pub const fn new(
@@ -80,6 +81,7 @@ impl Matrix4 {
     /// assert_eq!(Matrix4::from_cols(c, c, c, c)[2][0], 4.0);
     /// ```
     #[inline]
+    #[must_use]
     pub const fn from_cols(c0: Vector4, c1: Vector4, c2: Vector4, c3: Vector4) -> Self {
         Self { x: c0, y: c1, z: c2, w: c3 }
     }
@@ -92,6 +94,7 @@ impl Matrix4 {
     /// assert_eq!(Matrix4::from_value(3.0), Matrix4::from_diagonal(Vector4::new(3.0, 3.0, 3.0, 3.0)));
     /// ```
     #[inline]
+    #[must_use]
     pub const fn from_value(value: f64) -> Self {
         Self::from_diagonal(Vector4::new(value, value, value, value))
     }
@@ -105,6 +108,7 @@ impl Matrix4 {
     /// assert_eq!((m[1][1], m[1][2]), (4.0, 0.0));
     /// ```
     #[inline]
+    #[must_use]
     #[rustfmt::skip]
     pub const fn from_diagonal(value: Vector4) -> Self {
         Self::new(
@@ -123,6 +127,7 @@ impl Matrix4 {
     /// assert_eq!(Matrix4::from_translation(Vector3::new(4.0, 6.0, 8.0)).w, Vector4::new(4.0, 6.0, 8.0, 1.0));
     /// ```
     #[inline]
+    #[must_use]
     #[rustfmt::skip]
     pub const fn from_translation(v: Vector3) -> Self {
         Self::new(
@@ -141,6 +146,7 @@ impl Matrix4 {
     /// assert_eq!(Matrix4::from_scale(3.0), Matrix4::from_diagonal(Vector4::new(3.0, 3.0, 3.0, 1.0)));
     /// ```
     #[inline]
+    #[must_use]
     pub const fn from_scale(value: f64) -> Self {
         Self::from_nonuniform_scale(value, value, value)
     }
@@ -154,11 +160,12 @@ impl Matrix4 {
     /// assert_eq!(m, Matrix4::from_diagonal(Vector4::new(3.0, 4.0, 5.0, 1.0)));
     /// ```
     #[inline]
+    #[must_use]
     pub const fn from_nonuniform_scale(x: f64, y: f64, z: f64) -> Self {
         Self::from_diagonal(Vector4::new(x, y, z, 1.0))
     }
 
-    /// Exchanges rows a and b in place; [`Refusal::OutOfRange`], and nothing changed, unless both are below 4.
+    /// Exchanges rows a and b in place.
     ///
     /// ```
     /// use migthumo::{Matrix4, Refusal};
@@ -169,12 +176,16 @@ impl Matrix4 {
     /// assert_eq!(m.swap_rows(5, 5), Err(Refusal::OutOfRange));
     /// # Ok::<(), Refusal>(())
     /// ```
+    ///
+    /// # Errors
+    ///
+    /// [`Refusal::OutOfRange`], and nothing changed, unless both are below 4.
     #[inline]
     pub fn swap_rows(&mut self, a: usize, b: usize) -> Result<(), Refusal> {
         ffi::swap_rows_mut(self, a, b)
     }
 
-    /// Exchanges columns a and b in place; [`Refusal::OutOfRange`], and nothing changed, unless both are below 4.
+    /// Exchanges columns a and b in place.
     ///
     /// ```
     /// use migthumo::{Matrix4, Refusal};
@@ -185,14 +196,16 @@ impl Matrix4 {
     /// assert_eq!(m.swap_columns(0, 4), Err(Refusal::OutOfRange));
     /// # Ok::<(), Refusal>(())
     /// ```
+    ///
+    /// # Errors
+    ///
+    /// [`Refusal::OutOfRange`], and nothing changed, unless both are below 4.
     #[inline]
     pub fn swap_columns(&mut self, a: usize, b: usize) -> Result<(), Refusal> {
         ffi::swap_columns_mut(self, a, b)
     }
 
     /// Exchanges in place the entries at two places, each a column and then a row.
-    ///
-    /// [`Refusal::OutOfRange`], and nothing changed, unless all four numbers are below 4.
     ///
     /// ```
     /// use migthumo::{Matrix4, Refusal};
@@ -203,6 +216,10 @@ impl Matrix4 {
     /// assert_eq!(m.swap_elements((0, 0), (3, 4)), Err(Refusal::OutOfRange));
     /// # Ok::<(), Refusal>(())
     /// ```
+    ///
+    /// # Errors
+    ///
+    /// [`Refusal::OutOfRange`], and nothing changed, unless all four numbers are below 4.
     #[inline]
     pub fn swap_elements(&mut self, a: (usize, usize), b: (usize, usize)) -> Result<(), Refusal> {
         ffi::swap_elements_mut(self, a.0, a.1, b.0, b.1)
@@ -239,6 +256,6 @@ impl From<Matrix3> for Matrix4 {
     }
 }
 
-square!(Matrix4, Vector4, 4, { x: 0, y: 1, z: 2, w: 3 }, "use migthumo::{Matrix4 as Matrix, Vector4 as Vector};");
+square!(Matrix4, Vector4, 4, { x: 0, y: 1, z: 2, w: 3 }, 64, "use migthumo::{Matrix4 as Matrix, Vector4 as Vector};");
 space!(Matrix4, "use migthumo::Matrix4 as Matrix;");
 operators!(Matrix4, Vector4, 4);

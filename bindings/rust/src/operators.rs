@@ -1,9 +1,10 @@
-//! The operators, written once for the three orders. Each takes its matrices and vectors by value or lent.
+//! The operators, and sums and products of iterators, written once for the three orders. Each takes its matrices and
+//! vectors by value or lent.
 
 /// An operator between two records, by the left one's method.
 macro_rules! between {
     ($Operator:ident, $name:ident, $Left:ident, $Right:ident, $Output:ident, $method:ident) => {
-        impl std::ops::$Operator<$Right> for $Left {
+        impl core::ops::$Operator<$Right> for $Left {
             type Output = $Output;
 
             #[inline]
@@ -12,7 +13,7 @@ macro_rules! between {
             }
         }
 
-        impl std::ops::$Operator<&$Right> for $Left {
+        impl core::ops::$Operator<&$Right> for $Left {
             type Output = $Output;
 
             #[inline]
@@ -21,7 +22,7 @@ macro_rules! between {
             }
         }
 
-        impl std::ops::$Operator<$Right> for &$Left {
+        impl core::ops::$Operator<$Right> for &$Left {
             type Output = $Output;
 
             #[inline]
@@ -30,7 +31,7 @@ macro_rules! between {
             }
         }
 
-        impl std::ops::$Operator<&$Right> for &$Left {
+        impl core::ops::$Operator<&$Right> for &$Left {
             type Output = $Output;
 
             #[inline]
@@ -45,7 +46,7 @@ pub(crate) use between;
 /// An operator between a matrix and a number, by two methods: one for the number on the right, one for the left.
 macro_rules! with_number {
     ($Operator:ident, $name:ident, $Matrix:ident, $on_right:ident, $on_left:ident) => {
-        impl std::ops::$Operator<f64> for $Matrix {
+        impl core::ops::$Operator<f64> for $Matrix {
             type Output = $Matrix;
 
             #[inline]
@@ -54,7 +55,7 @@ macro_rules! with_number {
             }
         }
 
-        impl std::ops::$Operator<f64> for &$Matrix {
+        impl core::ops::$Operator<f64> for &$Matrix {
             type Output = $Matrix;
 
             #[inline]
@@ -63,7 +64,7 @@ macro_rules! with_number {
             }
         }
 
-        impl std::ops::$Operator<$Matrix> for f64 {
+        impl core::ops::$Operator<$Matrix> for f64 {
             type Output = $Matrix;
 
             #[inline]
@@ -72,7 +73,7 @@ macro_rules! with_number {
             }
         }
 
-        impl std::ops::$Operator<&$Matrix> for f64 {
+        impl core::ops::$Operator<&$Matrix> for f64 {
             type Output = $Matrix;
 
             #[inline]
@@ -87,7 +88,7 @@ pub(crate) use with_number;
 /// An operator that changes the matrix on its left, by a method that makes the changed one.
 macro_rules! assigning {
     ($Operator:ident, $name:ident, $Matrix:ident, $Right:ident, |$left:ident, $right:ident| $changed:expr) => {
-        impl std::ops::$Operator<$Right> for $Matrix {
+        impl core::ops::$Operator<$Right> for $Matrix {
             #[inline]
             fn $name(&mut self, $right: $Right) {
                 let $left = &*self;
@@ -97,6 +98,26 @@ macro_rules! assigning {
     };
 }
 pub(crate) use assigning;
+
+/// A fold of an iterator over matrices, by value or lent, from the left.
+macro_rules! folding {
+    ($Fold:ident, $name:ident, $Matrix:ident, $first:ident, $method:ident) => {
+        impl core::iter::$Fold for $Matrix {
+            #[inline]
+            fn $name<I: Iterator<Item = $Matrix>>(matrices: I) -> $Matrix {
+                matrices.fold($Matrix::$first(), |before, matrix| before.$method(&matrix))
+            }
+        }
+
+        impl<'a> core::iter::$Fold<&'a $Matrix> for $Matrix {
+            #[inline]
+            fn $name<I: Iterator<Item = &'a $Matrix>>(matrices: I) -> $Matrix {
+                matrices.fold($Matrix::$first(), |before, matrix| before.$method(matrix))
+            }
+        }
+    };
+}
+pub(crate) use folding;
 
 /// All operators of one order.
 macro_rules! operators {
@@ -116,7 +137,7 @@ macro_rules! operators {
 
             /// This matrix times the other.
             #[inline]
-            fn product(&self, other: &Self) -> Self {
+            fn times(&self, other: &Self) -> Self {
                 given(|out| ffi::product($order, ffi::numbers(self), ffi::numbers(other), out))
             }
 
@@ -159,7 +180,7 @@ macro_rules! operators {
 
         between!(Add, add, $Matrix, $Matrix, $Matrix, plus);
         between!(Sub, sub, $Matrix, $Matrix, $Matrix, less);
-        between!(Mul, mul, $Matrix, $Matrix, $Matrix, product);
+        between!(Mul, mul, $Matrix, $Matrix, $Matrix, times);
         between!(Mul, mul, $Matrix, $Vector, $Vector, moved);
         with_number!(Mul, mul, $Matrix, scaled_by, scaled);
         with_number!(Div, div, $Matrix, divided_by, dividing);
@@ -167,8 +188,10 @@ macro_rules! operators {
         assigning!(SubAssign, sub_assign, $Matrix, $Matrix, |m, other| m.less(&other));
         assigning!(MulAssign, mul_assign, $Matrix, f64, |m, number| m.scaled_by(number));
         assigning!(DivAssign, div_assign, $Matrix, f64, |m, number| m.divided_by(number));
+        folding!(Sum, sum, $Matrix, zero, plus);
+        folding!(Product, product, $Matrix, identity, times);
 
-        impl std::ops::Neg for $Matrix {
+        impl core::ops::Neg for $Matrix {
             type Output = $Matrix;
 
             #[inline]
@@ -177,7 +200,7 @@ macro_rules! operators {
             }
         }
 
-        impl std::ops::Neg for &$Matrix {
+        impl core::ops::Neg for &$Matrix {
             type Output = $Matrix;
 
             #[inline]

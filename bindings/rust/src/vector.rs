@@ -1,12 +1,15 @@
 //! Vectors of two, three and four numbers: data, without arithmetic.
 
 use crate::ffi;
-use std::fmt;
-use std::ops::{Index, IndexMut};
+use crate::square::views;
+use core::fmt;
+use core::ops::{Index, IndexMut};
+use core::ptr;
 
-/// Stops a read or write at a place that is not there.
+/// Stops a read or write at a place that is not there, as cgmath does. Nothing else here panics.
 #[cold]
 #[track_caller]
+#[allow(clippy::panic)]
 pub(crate) fn not_below(place: usize, length: usize) -> ! {
     panic!("place {place} is not below {length}")
 }
@@ -30,6 +33,7 @@ macro_rules! vector {
 
             /// The vector of these numbers.
             #[inline]
+            #[must_use]
             pub const fn new($($field: f64),+) -> Self {
                 Self { $($field),+ }
             }
@@ -45,6 +49,7 @@ macro_rules! vector {
             /// assert_eq!(numbers[Vector::LENGTH], 2.0);
             /// ```
             #[inline]
+            #[must_use]
             pub fn flat(vectors: &[Self]) -> &[f64] {
                 ffi::flat(vectors)
             }
@@ -59,10 +64,43 @@ macro_rules! vector {
             /// assert_eq!(vectors[2], Vector::from([5.0; Vector::LENGTH]));
             /// ```
             #[inline]
+            #[must_use]
             pub fn flat_mut(vectors: &mut [Self]) -> &mut [f64] {
                 ffi::flat_mut(vectors)
             }
+
+            /// Whether every number is finite: no NaN and no infinity.
+            ///
+            /// ```
+            #[doc = $import]
+            ///
+            /// let mut v = Vector::from([f64::MAX; Vector::LENGTH]);
+            /// assert!(v.is_finite());
+            /// v[1] = f64::NAN;
+            /// assert!(!v.is_finite());
+            /// ```
+            #[inline]
+            #[must_use]
+            pub const fn is_finite(&self) -> bool {
+                $(self.$field.is_finite())&&+
+            }
+
+            /// Where the numbers start.
+            #[inline]
+            #[must_use]
+            pub const fn as_ptr(&self) -> *const f64 {
+                ptr::from_ref(self).cast()
+            }
+
+            /// Where the numbers start, to be written to.
+            #[inline]
+            #[must_use]
+            pub const fn as_mut_ptr(&mut self) -> *mut f64 {
+                ptr::from_mut(self).cast()
+            }
         }
+
+        views!($Vector, [f64; $length]);
 
         impl From<[f64; $length]> for $Vector {
             #[inline]

@@ -1,4 +1,5 @@
-//! The scope paper's reference cases, R1 to R12 and those that are only run, through the crate's own names.
+//! The cases of document 01, 'Reference cases, both sides of each edge', R1 to R12 and those that are only run, through
+//! the crate's own names.
 
 use migthumo::{ffi, Matrix2, Matrix3, Matrix4, Refusal, Vector3};
 

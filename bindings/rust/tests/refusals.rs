@@ -1,6 +1,6 @@
 //! Every refusal with its number, the order in which causes are tested, and that nothing is written.
 
-use migthumo::{ffi, Matrix2, Matrix3, Matrix4, Refusal};
+use migthumo::{ffi, Matrix2, Matrix3, Matrix4, Refusal, UnknownNumber, VERSION};
 use Refusal::{InputLength, NotWhole, Order, OutOfRange, OutputLength, Singular};
 
 /// What an output holds before a call.
@@ -29,6 +29,33 @@ fn numbers_and_words() {
     assert_eq!([OutputLength, Order, NotWhole].map(Refusal::number), [4, 5, 6]);
     let error: Box<dyn std::error::Error> = Box::new(Singular);
     assert_eq!(error.to_string(), "refusal 2: the determinant compares equal to zero");
+}
+
+#[test]
+fn numbers_both_ways() {
+    for number in 1..=6 {
+        assert_eq!(Refusal::try_from(number).map(u32::from), Ok(number));
+        assert_eq!(Refusal::try_from(number).ok(), Refusal::from_number(number));
+    }
+    for number in [0, 7, 11, 12, 267, u32::MAX] {
+        let error: UnknownNumber = Refusal::try_from(number).unwrap_err();
+        assert_eq!(error.number(), number);
+        let error: Box<dyn std::error::Error> = Box::new(error);
+        assert_eq!(error.to_string(), format!("{number} is not the number of a refusal, 1 to 6"));
+    }
+}
+
+#[test]
+fn a_number_that_is_not_known_is_a_value() {
+    let unknown = Refusal::Unknown(267);
+    assert_eq!((unknown.number(), u32::from(unknown)), (267, 267));
+    assert_eq!(unknown.to_string(), "refusal 267: its cause is not known to this crate");
+    assert_ne!(Refusal::Unknown(2), Singular);
+}
+
+#[test]
+fn the_version_is_the_one_that_was_built_for() {
+    assert_eq!((ffi::version(), VERSION), (1, 1));
 }
 
 /// A function of one matrix over slices.
