@@ -3,7 +3,7 @@
 //! Every sum, product, determinant and inverse is worked out by libmigthumo.a, whose functions are proved to follow
 //! IEEE 754 operation by operation; this crate only carries numbers there and back. Matrices are column-major:
 //! `m[c][r]` is column c, row r. Where cgmath answers `None` or panics, a method here answers a [`Refusal`]; the one
-//! panic that is left is cgmath's own, that of `m[c]` and `v[i]` at a place that is not there.
+//! panic that is left is cgmath's own, that of `m[c]`, `v[i]` and `m.replace_col(c, v)` at a place that is not there.
 //!
 //! ```
 //! use migthumo::{Matrix2, Refusal, Vector2};

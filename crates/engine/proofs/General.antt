@@ -79,7 +79,7 @@ numbered b x small v =
     subst (λ (z : ℤ). Known x z 0 b) (sym (exact-truncation 63 (v .exact) (lt-of-le-of-lt (v .within) (lt-of-lt-of-le small (lit≤ tt))))) (known-whole v)
 
 -- a test that passes
-passes-true : (b : Bool) → T b → b ≡ true
+pub passes-true : (b : Bool) → T b → b ≡ true
 passes-true true t = refl
 passes-true false t = absurd t
 

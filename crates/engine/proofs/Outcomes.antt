@@ -3,12 +3,12 @@
 use mathlib.Core.Path.{_≡_, refl, sym, ap, _∙_, fun-ext, subst}
 use mathlib.Core.Bool.{Bool, true, false, _&&_}
 use mathlib.Core.List.{List, [], map}
-use Prim.Native.Nat.{ℕ, _-_, _≤_, _<_, suc-le-suc}
-use native.Mathlib.Nat.{lt-of-lt-of-le}
+use Prim.Native.Nat.{ℕ, zero, suc, _-_, _≤_, _<_}
+use native.Mathlib.Nat.{lt-irrefl, lt-of-lt-of-le, le-of-suc-le-suc}
 use native.Mathlib.Omega.{arith}
 use lib.Dec.{T, lit<}
 use lib.ListN.{getD, List·getD-map}
-use lib.IntN.{ℤ, pos, natAbs, _*ℤ_}
+use lib.IntN.{ℤ, pos, natAbs}
 use lib.Ieee.{Float, nan, eq, ofBits, ofInt, toSigned}
 use Rattle.vector.specs.Arithmetic.{float0, float1}
 use Rattle.vector.specs.Refusals.{Outcome, given, refused, refusedFor, after, over}
@@ -22,9 +22,8 @@ use Rattle.matrix.specs.declared.records.Matrix2.{Matrix2}
 use Rattle.matrix.specs.declared.records.Matrix3.{Matrix3}
 use Rattle.matrix.specs.declared.records.Matrix4.{Matrix4}
 use Rattle.whole.specs.Matrix.{Matrix}
-use Rattle.whole.specs.Order.{parity, skip, signed-sum}
-use Rattle.whole.proofs.Skip.{skip-le}
-use Rattle.whole.proofs.Expansion.{signed-sum-ext}
+use Rattle.whole.specs.Order.{signed-sum}
+use Rattle.whole.proofs.Expansion.{signed-sum-ext, cofactor-ext as Expansion·cofactor-ext}
 use Rattle.engine.specs.Whole.{wholeNumber, isWhole, Floats, wholeEntries, numbers, floats2, floats3, floats4, wholes, Small}
 use Rattle.vector.specs.declared.refusal.Refusal.{Refusal}
 use Rattle.engine.specs.declared.answers.NumberAnswer.{NumberAnswer}
@@ -160,10 +159,10 @@ placed-same n c r p q v w same values = by-column (columnBelow n c) (λ e. passe
 
 -- matrices that are alike below the order have the same cofactors
 pub cofactor-ext : (n : ℕ) → 0 < n → (m w : Matrix) → ((c r : ℕ) → c < n → r < n → m c r ≡ w c r) → (c r : ℕ) → c < n → r < n → cofactorOf n m c r ≡ cofactorOf n w c r
-cofactor-ext n some m w same c r h l =
-    ap (λ (z : ℤ). parity c *ℤ parity r *ℤ z)
-    (signed-sum-ext (n - 1) (λ i s. m (skip c i) (skip r s)) (λ i s. w (skip c i) (skip r s))
-    (λ i s a b. same (skip c i) (skip r s) (lt-of-lt-of-le (suc-le-suc (skip-le (n - 1) c i (omega arith) a)) (omega arith)) (lt-of-lt-of-le (suc-le-suc (skip-le (n - 1) r s (omega arith) b)) (omega arith))))
+cofactor-ext zero some m w same c r h l = absurd (lt-irrefl 0 some)
+cofactor-ext (suc n) some m w same c r h l =
+    let less : suc n - 1 ≡ n = omega arith in
+    rw less (Expansion·cofactor-ext n m w same c r (le-of-suc-le-suc h) (le-of-suc-le-suc l))
 
 -- so a cofactor is the matrix's
 pub corner-cofactor : (n : ℕ) (e d : Floats) (c r : ℕ) → 0 < n → Alike n e d → c < n → r < n → cofactorOf n (numbers e) c r ≡ cofactorOf n (numbers d) c r

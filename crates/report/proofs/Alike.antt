@@ -3,15 +3,13 @@
 use mathlib.Core.Path.{_≡_, refl, ap}
 use mathlib.Core.Bool.{Bool, true, false}
 use mathlib.Core.List.{_++_}
-use Prim.Native.Nat.{ℕ, zero, suc, _-_, _<_, suc-le-suc}
-use native.Mathlib.Nat.{lt-of-lt-of-le}
+use Prim.Native.Nat.{ℕ, zero, suc, _-_, _<_}
 use native.Mathlib.Omega.{arith}
-use lib.IntN.{ℤ, _*ℤ_}
+use lib.IntN.{ℤ}
 use Rattle.whole.specs.Matrix.{Matrix}
-use Rattle.whole.specs.Order.{parity, skip, signed-sum}
-use Rattle.whole.proofs.Skip.{skip-le}
+use Rattle.whole.specs.Order.{signed-sum}
 use Rattle.whole.proofs.Expansion.{signed-sum-ext}
-use Rattle.engine.specs.Engine.{cofactorOf}
+use Rattle.engine.proofs.Outcomes.{cofactor-ext}
 use Rattle.report.specs.Text.{Bytes, text, each, whole}
 use Rattle.report.specs.Report.{cell, fraction, rowOf, rowsOf, inverseReport, sumReport, matrixReport}
 
@@ -21,17 +19,10 @@ each-ext zero f g same = refl
 each-ext (suc n) f g same = rw (each-ext n f g (λ k h. same k (omega arith)), same n (omega arith))
 
 module _ (n : ℕ) (m w : Matrix) (same : (c r : ℕ) → c < n → r < n → m c r ≡ w c r) where
-  -- the cofactors
-  pub cofactor-ext : (c r : ℕ) → c < n → r < n → cofactorOf n m c r ≡ cofactorOf n w c r
-  cofactor-ext c r h l =
-      ap (λ (k : ℤ). parity c *ℤ parity r *ℤ k)
-      (signed-sum-ext (n - 1) (λ d s. m (skip c d) (skip r s)) (λ d s. w (skip c d) (skip r s))
-      (λ d s a b. same (skip c d) (skip r s) (lt-of-lt-of-le (suc-le-suc (skip-le (n - 1) c d (omega arith) a)) (omega arith)) (lt-of-lt-of-le (suc-le-suc (skip-le (n - 1) r s (omega arith) b)) (omega arith))))
-
   -- an entry
   cell-ext : (b : Bool) (s : ℤ) (c r : ℕ) → c < n → r < n → cell b n m s c r ≡ cell b n w s c r
   cell-ext false s c r h l = ap whole (same c r h l)
-  cell-ext true s c r h l = ap (λ (k : ℤ). fraction k s) (cofactor-ext r c l h)
+  cell-ext true s c r h l = ap (λ (k : ℤ). fraction k s) (cofactor-ext n (omega (arith, h)) m w same r c l h)
 
   -- the rows
   rows-ext : (b : Bool) (s : ℤ) → rowsOf b n m s ≡ rowsOf b n w s

@@ -1,16 +1,15 @@
 -- The engine's answers about the floats of small whole numbers are the sums and cofactors of the numbers themselves, at every order.
 -- Assumes nothing.
 use mathlib.Core.Path.{_≡_, refl, sym, ap, _∙_, subst}
-use mathlib.Core.Bool.{Bool, true, false}
 use mathlib.Core.List.{List}
-use Prim.Native.Nat.{ℕ, suc, _+_, _*_, _-_, _^_, _≤_, _<_, suc-le-suc}
-use native.Mathlib.Nat.{lt-of-le-of-lt, lt-of-lt-of-le, suc-mul, mul-le-mul-right, le-trans}
+use Prim.Native.Nat.{ℕ, suc, _+_, _*_, _-_, _^_, _≤_, _<_}
+use native.Mathlib.Nat.{lt-of-le-of-lt, suc-mul, mul-le-mul-right, le-trans}
 use native.Mathlib.Omega.{arith}
-use lib.Dec.{T, lit<}
+use lib.Dec.{lit<}
 use lib.ListN.{length, take, drop, getD}
 use lib.Seq.{length-take-le, getD-take}
 use borrow.Author.Tests.{le-leb, lt-leb}
-use lib.IntN.{ℤ, pos, natAbs, _*ℤ_}
+use lib.IntN.{ℤ, pos, natAbs}
 use lib.Signed.{mag}
 use lib.Ieee.{Float, binary64, ofInt}
 use mir.Syntax.{w64}
@@ -25,19 +24,18 @@ use Rattle.matrix.specs.declared.places.Row.{Row}
 use Rattle.matrix.specs.declared.records.Matrix2.{Matrix2}
 use Rattle.matrix.specs.declared.records.Matrix3.{Matrix3}
 use Rattle.matrix.specs.declared.records.Matrix4.{Matrix4}
-use Rattle.whole.specs.Order.{parity, skip, signed-sum}
-use Rattle.whole.proofs.Skip.{skip-le}
-use Rattle.whole.proofs.Expansion.{signed-sum-ext}
-use Rattle.exact.specs.Value.{Whole}
-use Rattle.exact.proofs.Integers.{exact-integer, exact-truncation}
-use Rattle.engine.specs.Whole.{Floats, wholeNumber, wholeEntries, numbers, floats2, floats3, floats4}
+use Rattle.whole.specs.Order.{signed-sum}
+use Rattle.engine.specs.Whole.{Floats, wholeEntries, numbers, floats2, floats3, floats4}
 use Rattle.engine.specs.Engine.{numberOutcome, taken, cofactorOf, signedSum, cofactor}
 use Rattle.engine.specs.declared.answers.NumberAnswer.{NumberAnswer}
 use Rattle.engine.specs.declared.answers.NumberAnswer.the-variants.{Given, Refused}
 use Rattle.engine.proofs.Signed.{back, small-back}
 use Rattle.engine.proofs.Places.{below-two, below-three, below-four}
-use Rattle.engine.proofs.Taken.{whole-entries}
-use Rattle.engine.proofs.Outcomes.{taken-yes}
+use Rattle.engine.proofs.Outcomes.{taken-yes, cofactor-ext}
+use Rattle.engine.proofs.Readings.{Holds}
+use Rattle.engine.proofs.General.{passes-true}
+use Rattle.engine.proofs.Numbers.{taken-held, numbers-held, sum-held}
+use Rattle.exact.proofs.Known.{Known, known-within, known-integer}
 use Rattle.report.specs.Words.{passing}
 use Rattle.report.proofs.Reading.{passing-more, passing-ends, passing-over}
 use Rattle.report.specs.Entries.{columns, small, SmallList, floatAt, AsFloats, numberIn}
@@ -134,40 +132,31 @@ module _ (list : List ℤ) where
             c h;
       })
 
-  -- ---- the numbers
+-- ---- the numbers
 
-  -- a small number's float is taken, and its whole number is the number
-  taken-float : (z : ℤ) → natAbs z ≤ 1024 → Whole 1024 (ofInt binary64 z)
-  taken-float z h = record { number = z; exact = exact-integer binary64 z (lt-of-le-of-lt h (lit< tt)); within = h }
+-- the floats of small whole numbers hold them
+pub floats-hold : (n : ℕ) (list : List ℤ) (e : Floats) → SmallList (n * n) list → AsFloats n list e → Holds n 1024 e (columns n list)
+floats-hold n list e small floats c r h l =
+    let few = small .each (c * n + r) (place n c r h l) in
+    subst (λ (x : Float). Known x (columns n list c r) 0 1024) (sym (floats .each c r h l)) (known-within few (known-integer binary64 (columns n list c r) (lt-of-le-of-lt few (lit< tt))))
 
-  number-back : (z : ℤ) → natAbs z ≤ 1024 → wholeNumber (ofInt binary64 z) ≡ z
-  number-back z h = exact-truncation 63 (exact-integer binary64 z (lt-of-le-of-lt h (lit< tt))) (lt-of-le-of-lt h (lit< tt))
+module _ (list : List ℤ) (n : ℕ) (e : Floats) (small : SmallList (n * n) list) (floats : AsFloats n list e) where
+  holds : Holds n 1024 e (columns n list)
+  holds = floats-hold n list e small floats
 
-  module _ (n : ℕ) (e : Floats) (small : SmallList (n * n) list) (floats : AsFloats n list e) where
-    small-place : (c r : ℕ) → c < n → r < n → natAbs (columns n list c r) ≤ 1024
-    small-place c r h l = small .each (c * n + r) (place n c r h l)
+  -- so they are taken
+  all-taken : taken 1024 n e ≡ given tt
+  all-taken = taken-yes 1024 n e (passes-true (wholeEntries 1024 n e) (taken-held 1024 n e (columns n list) (lit< tt) holds))
 
-    all-taken : taken 1024 n e ≡ given tt
-    all-taken = taken-yes 1024 n e (true-of (wholeEntries 1024 n e) (whole-entries 1024 n e (lit< tt) .1 (λ c r h l. rw (floats .each c r h l) (taken-float (columns n list c r) (small-place c r h l)))))
-      where
-        true-of : (b : Bool) → T b → b ≡ true
-        true-of true t = refl
-        true-of false t = absurd t
+  -- the engine's sum
+  sum-is : (z : ℤ) (o : Outcome ℤ) → o ≡ signedSum 1024 n e → z ≡ numberIn o → z ≡ signed-sum n (columns n list)
+  sum-is z o answered given-is = given-is ∙ rw (answered, all-taken) (sum-held 1024 n e (columns n list) (lit< tt) holds)
 
-    same : (c r : ℕ) → c < n → r < n → numbers e c r ≡ columns n list c r
-    same c r h l = rw (floats .each c r h l) (number-back (columns n list c r) (small-place c r h l))
-
-    -- the engine's sum
-    sum-is : (z : ℤ) (o : Outcome ℤ) → o ≡ signedSum 1024 n e → z ≡ numberIn o → z ≡ signed-sum n (columns n list)
-    sum-is z o answered given-is = given-is ∙ rw (answered, all-taken) (signed-sum-ext n (numbers e) (columns n list) same)
-
-    -- the engine's cofactor
-    cofactor-is : (z : ℤ) (o : Outcome ℤ) (c : Column) (r : Row) → c .0 < n → r .0 < n → o ≡ cofactor 1024 n e c r → z ≡ numberIn o → z ≡ cofactorOf n (columns n list) (c .0) (r .0)
-    cofactor-is z o c r h l answered given-is =
-        given-is ∙ rw (answered, within n (c .0) h, within n (r .0) l, all-taken)
-        (ap (λ (k : ℤ). parity (c .0) *ℤ parity (r .0) *ℤ k)
-        (signed-sum-ext (n - 1) (λ d s. numbers e (skip (c .0) d) (skip (r .0) s)) (λ d s. columns n list (skip (c .0) d) (skip (r .0) s))
-        (λ d s a b. same (skip (c .0) d) (skip (r .0) s) (lt-of-lt-of-le (suc-le-suc (skip-le (n - 1) (c .0) d (omega arith) a)) (omega arith)) (lt-of-lt-of-le (suc-le-suc (skip-le (n - 1) (r .0) s (omega arith) b)) (omega arith)))))
+  -- the engine's cofactor
+  cofactor-is : (z : ℤ) (o : Outcome ℤ) (c : Column) (r : Row) → c .0 < n → r .0 < n → o ≡ cofactor 1024 n e c r → z ≡ numberIn o → z ≡ cofactorOf n (columns n list) (c .0) (r .0)
+  cofactor-is z o c r h l answered given-is =
+      given-is ∙ rw (answered, within n (c .0) h, within n (r .0) l, all-taken)
+      (cofactor-ext n (omega (arith, h)) (numbers e) (columns n list) (numbers-held 1024 n e (columns n list) (lit< tt) holds) (c .0) (r .0) h l)
 
 -- ---- the answer's number
 

@@ -5,13 +5,13 @@ use mathlib.Core.Bool.{Bool, true, false, cond}
 use mathlib.Core.List.{List, [], _∷_, _++_, append-assoc, append-nil}
 use Prim.Native.Nat.{ℕ, zero, suc, _+_, _≤_, _<_, min}
 use native.Mathlib.Omega.{arith}
-use lib.ListN.{length, take, set, length-append}
+use lib.ListN.{length, take, length-append}
 use lib.Seq.{sets, length-take-le}
 use Rattle.report.specs.Text.{Bytes}
 use Rattle.report.specs.Written.{Wrote}
 use Rattle.report.specs.Words.{isBlank, lead, parts, kept, words, joined, JoinedWords, WordAdded}
 use Rattle.report.proofs.Reading.{some-part}
-use Rattle.report.proofs.Writing.{sets-past}
+use Rattle.report.proofs.Writing.{sets-past, sets-later}
 
 -- the parts of a line, a blank and another line
 abbrev parted : Bytes → Bytes → Type 0
@@ -45,20 +45,16 @@ joined-words (s ∷ ss) =
 
 -- ---- a text behind what stood before
 
-later : (x : ℕ) (l : Bytes) (i : ℕ) (t : Bytes) → sets (x ∷ l) (suc i) t ≡ x ∷ sets l i t
-later x l i [] = refl
-later x l i (b ∷ t) = later x (set l i b) (suc i) t
-
 added-behind : (l : Bytes) (at : ℕ) (t : Bytes) → at + length t ≤ length l → take (at + length t) (sets l at t) ≡ take at l ++ t
 added-behind l zero [] h = refl
 added-behind [] zero (b ∷ t) h = absurd (omega arith)
 added-behind (x ∷ l) zero (b ∷ t) h =
     let more : 0 + suc (length t) ≡ suc (0 + length t) = omega arith in
-    rw (more, later b l 0 t) (ap (λ (r : Bytes). b ∷ r) (added-behind l zero t (omega arith)))
+    rw (more, sets-later b l 0 t) (ap (λ (r : Bytes). b ∷ r) (added-behind l zero t (omega arith)))
 added-behind [] (suc at) t h = absurd (omega arith)
 added-behind (x ∷ l) (suc at) t h =
     let more : suc at + length t ≡ suc (at + length t) = omega arith in
-    rw (more, later x l at t) (ap (λ (r : Bytes). x ∷ r) (added-behind l at t (omega arith)))
+    rw (more, sets-later x l at t) (ap (λ (r : Bytes). x ∷ r) (added-behind l at t (omega arith)))
 
 -- one more among the words that were put in
 joined-more : (ss : List Bytes) (w : Bytes) → joined (ss ++ (w ∷ [])) ≡ joined ss ++ (w ++ (32 ∷ []))

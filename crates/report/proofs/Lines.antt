@@ -7,7 +7,7 @@ use Prim.Native.Nat.{ℕ, zero, suc, _+_, _*_, _-_, _≤_, _<_, min}
 use native.Mathlib.Omega.{arith}
 use lib.Dec.{leb, eqb}
 use lib.IntN.{ℤ, pos, natAbs}
-use lib.ListN.{length, take, drop, getD, set, length-map}
+use lib.ListN.{length, take, drop, getD, length-map}
 use lib.Seq.{sets, getD-take, length-take-le, drop-nil}
 use borrow.Author.Tests.{leb-true, leb-false, eqb-true, eqb-false, eq-eqb, ne-eqb}
 use Rattle.whole.proofs.Ring.{abs-neg}
@@ -21,7 +21,7 @@ use Rattle.report.specs.Line.{Line, noOrder, otherCount, notWhole, matri
 use Rattle.report.specs.Report.{atStart}
 use Rattle.report.proofs.Signs.{differ}
 use Rattle.report.proofs.Reading.{agree, part-long, no-word, first-word}
-use Rattle.report.proofs.Writing.{sets-past}
+use Rattle.report.proofs.Writing.{sets-past, sets-later}
 use Rattle.report.proofs.Asking.{place, room}
 
 -- ---- the order
@@ -202,11 +202,6 @@ square-in (w ∷ ws) = by-order (eqb (orderOf w) 0) refl
     by-order false e = by-count (eqb-false (orderOf w) 0 e) (eqb (length ws) (n * n)) refl
 
 -- ---- the output
-
--- stores past the first place
-sets-later : (x : ℕ) (l : Bytes) (i : ℕ) (t : Bytes) → sets (x ∷ l) (suc i) t ≡ x ∷ sets l i t
-sets-later x l i [] = refl
-sets-later x l i (b ∷ t) = sets-later x (set l i b) (suc i) t
 
 -- a text stored from the start on
 from-start : (l t : Bytes) → sets l 0 t ≡ atStart l t

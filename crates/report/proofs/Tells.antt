@@ -31,36 +31,38 @@ use Rattle.report.proofs.Writing.{named}
 
 -- ---- the kinds told apart
 
+-- a matrix
 is-matrix : Found → Bool
 is-matrix found.NoOrder = false
 is-matrix found.OtherCount = false
 is-matrix found.NotWhole = false
 is-matrix found.Matrix = true
 
-is-other : Found → Bool
-is-other found.NoOrder = false
-is-other found.OtherCount = false
-is-other found.NotWhole = true
-is-other found.Matrix = false
+-- a word that does not fit
+is-outside : Found → Bool
+is-outside found.NoOrder = false
+is-outside found.OtherCount = false
+is-outside found.NotWhole = true
+is-outside found.Matrix = false
 
 -- ---- from what was found to the reading
 
 module _ (line : Bytes) (place : ℕ) (list : List ℤ) where
   pub reads-none : noOrder ≡ lineOf line → Reads line (record { found = found.NoOrder; order = 0; place = place; sum = pos 0; list = list })
-  unfolding meant is-matrix is-other
+  unfolding meant is-matrix is-outside
   reads-none is =
       record {
         is = is;
-        holds = record { few = omega arith; in-range = lit< tt; some = λ e. differ (sym (ap is-other e)); square = λ e. differ (sym (ap is-matrix e)); summed = λ e. differ (sym (ap is-matrix e)) };
+        holds = record { few = omega arith; in-range = lit< tt; some = λ e. differ (sym (ap is-outside e)); square = λ e. differ (sym (ap is-matrix e)); summed = λ e. differ (sym (ap is-matrix e)) };
       }
 
   module _ (n : ℕ) (few : n ≤ 4) where
     pub reads-other : otherCount n ≡ lineOf line → Reads line (record { found = found.OtherCount; order = n; place = place; sum = pos 0; list = list })
-    unfolding meant is-matrix is-other
+    unfolding meant is-matrix is-outside
     reads-other is =
         record {
           is = is;
-          holds = record { few = few; in-range = lit< tt; some = λ e. differ (sym (ap is-other e)); square = λ e. differ (sym (ap is-matrix e)); summed = λ e. differ (sym (ap is-matrix e)) };
+          holds = record { few = few; in-range = lit< tt; some = λ e. differ (sym (ap is-outside e)); square = λ e. differ (sym (ap is-matrix e)); summed = λ e. differ (sym (ap is-matrix e)) };
         }
 
     pub reads-not-whole : 2 ≤ n → notWhole n place ≡ lineOf line → Reads line (record { found = found.NotWhole; order = n; place = place; sum = pos 0; list = list })
@@ -73,11 +75,11 @@ module _ (line : Bytes) (place : ℕ) (list : List ℤ) where
 
     pub reads-matrix : (s : ℤ) → mag s < 2 ^ 63 → s ≡ signed-sum n (columns n list) → Square n list → matrix n (take (n * n) list) ≡ lineOf line
         → Reads line (record { found = found.Matrix; order = n; place = place; sum = held s; list = list })
-    unfolding meant is-other
+    unfolding meant is-outside
     reads-matrix s fits is-sum square is =
         record {
           is = is;
-          holds = record { few = few; in-range = rw (back s fits) fits; some = λ e. differ (sym (ap is-other e)); square = λ e. square; summed = λ e. back s fits ∙ is-sum };
+          holds = record { few = few; in-range = rw (back s fits) fits; some = λ e. differ (sym (ap is-outside e)); square = λ e. square; summed = λ e. back s fits ∙ is-sum };
         }
 
 -- ---- from the reading to its texts

@@ -19,6 +19,11 @@ pub sets-past : (l : Bytes) (i : ℕ) (t : Bytes) → length l ≤ i → sets l 
 sets-past l i [] h = refl
 sets-past l i (b ∷ t) h = rw (set-out l i b h) (sets-past l (suc i) t (omega arith))
 
+-- stores past the first place
+pub sets-later : (x : ℕ) (l : Bytes) (i : ℕ) (t : Bytes) → sets (x ∷ l) (suc i) t ≡ x ∷ sets l i t
+sets-later x l i [] = refl
+sets-later x l i (b ∷ t) = sets-later x (set l i b) (suc i) t
+
 -- two runs of stores, one after the other
 sets-then : (l : Bytes) (i : ℕ) (s t : Bytes) → sets l i (s ++ t) ≡ sets (sets l i s) (i + length s) t
 sets-then l i [] t = rw (add-zero i)
