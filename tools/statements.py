@@ -29,7 +29,8 @@ STATEMENTS = {
         "ListsOrders": "(n : ℕ) → ListsOrders n (orders n)",
         "ZeroExactlyIf": "(n : ℕ) (m : Matrix) → ZeroExactlyIf n m",
     },
-    "reference": {"Claims": "Claims table"},
+    "reference": {"Claims": "Claims table", "Ways": "Ways"},
+    "migthumo": {"CodeTells": "CodeTells"},
     "report": {
         "EveryReportFits": "EveryReportFits",
         "LowestTerms": "LowestTerms",

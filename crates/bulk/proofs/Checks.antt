@@ -1,14 +1,15 @@
 -- What the tests of a bulk move say: each on both sides of its edge, and what holds where none refuses.
 -- Assumes nothing.
 use mathlib.Core.Path.{_≡_, refl, sym, ap, _∙_}
-use mathlib.Core.Bool.{Bool, true, false, cond, _&&_}
+use mathlib.Core.Bool.{Bool, true, false, _&&_}
 use Prim.Native.Nat.{ℕ, _+_, _*_, _-_, _%_, _<_, _≤_}
 use native.Mathlib.Nat.{mul-le-mul}
 use native.Mathlib.Omega.{arith}
 use borrow.Author.Tests.{le-leb, lt-leb, leb-true, eq-eqb, ne-eqb, eqb-true}
 use Rattle.vector.specs.declared.refusal.Refusal.{Refusal}
 use Rattle.vector.specs.declared.refusal.Refusal.the-variants.{Order}
-use Rattle.vector.specs.Refusals.{Outcome, given, refused, refusedFor, after, done, leaves}
+use Rattle.vector.specs.Refusals.{Outcome, given, refusedFor, after, done, leaves}
+use Rattle.vector.proofs.Checks.{passed}
 use Rattle.matrix.proofs.Ranges.{both}
 use Rattle.bulk.specs.declared.Moved.{Moved}
 use Rattle.bulk.specs.declared.Moved.the-variants.{Done, Refused}
@@ -44,11 +45,6 @@ length-wrong cause length wanted ne = simp (ne-eqb length wanted ne)
 
 -- ---- where none refuses
 
--- a test that does not refuse was true
-pub passed : (b : Bool) (k : ℕ) → _≡_ {A = Outcome Unit} (cond b (given tt) (refused k)) (given tt) → b ≡ true
-passed true k e = refl
-passed false k e = let none : _≡_ {A = ℕ} 0 1 = cc in absurd (omega arith)
-
 pub both-true : (a b : Bool) → (a && b) ≡ true → (a ≡ true) × (b ≡ true)
 both-true true b e = (refl, e)
 both-true false b e = let none : _≡_ {A = ℕ} 0 1 = cc in absurd (omega arith)
@@ -56,7 +52,7 @@ both-true false b e = let none : _≡_ {A = ℕ} 0 1 = cc in absurd (omega arith
 pub order-is : (least order : ℕ) → orderFrom least order ≡ given tt → (least ≤ order) × (order ≤ 4)
 unfolding orderFrom
 order-is least order e =
-    let t = both-true _ _ (passed _ 5 e) in
+    let t = both-true _ _ (passed _ _ e) in
     (leb-true least order (t .0), leb-true order 4 (t .1))
 
 pub length-is : (cause : Refusal) (length wanted : ℕ) → numberIs cause length wanted ≡ given tt → length ≡ wanted

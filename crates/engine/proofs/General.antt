@@ -11,7 +11,7 @@ use lib.Pow.{pow-pos}
 use lib.IntN.{ℤ, pos, natAbs}
 use lib.Ieee.{Float, binary64, low, eq}
 use Rattle.vector.specs.Arithmetic.{float0}
-use Rattle.vector.specs.Refusals.{Outcome, given, refused, refusedFor, after}
+use Rattle.vector.specs.Refusals.{Outcome, given, refused, Meant, bare, refusedFor, after}
 use Rattle.vector.specs.declared.refusal.Refusal.the-variants.{NotWhole}
 use Rattle.matrix.specs.Inverse.{nonzero}
 use Rattle.matrix.proofs.Singular as singular
@@ -64,8 +64,8 @@ pub record Written (p : Port) (B D E : ℕ) (d F G : Formula) : Type 0 where
 -- ---- refusals
 
 -- an outcome that is refused with 2 exactly where a test passes
-refusal : {A : Type 0} (b : Bool) (o : Outcome A) (i : A) (S : Type 0) → o ≡ after (cond b (refused 2) (given tt)) (given i) → T b ↔ S → (n : ℕ) → (o ≡ refused n) ↔ ((n ≡ 2) × S)
-refusal true o i S e zero n = (λ r. let is : refused 2 ≡ refused n = sym e ∙ r in ((cc), zero .0 tt), λ q. e ∙ ap refused (sym (q .0)))
+refusal : {A : Type 0} (b : Bool) (o : Outcome A) (i : A) (S : Type 0) → o ≡ after (cond b (refused (bare 2)) (given tt)) (given i) → T b ↔ S → (why : Meant) → (o ≡ refused why) ↔ ((why ≡ bare 2) × S)
+refusal true o i S e zero why = (λ r. let is : refused (bare 2) ≡ refused why = sym e ∙ r in ((cc), zero .0 tt), λ q. e ∙ ap refused (sym (q .0)))
 refusal false o i S e zero n = (λ r. let none : _≡_ {A = ℕ} 0 1 = cc in absurd (omega arith), λ q. absurd (zero .1 (q .1)))
 
 -- a test that does not pass
@@ -242,7 +242,7 @@ module _ (p : Port) (B D E : ℕ) (d F G : Formula) (w : Written p B D E d F G) 
 -- ---- the engine
 
 -- the test of the entries, as the check has it
-by-check : {A : Type 0} (b : Bool) (v : A) → (after (cond b (given tt) (refusedFor NotWhole)) (given v) ≡ refused 6) ↔ ¬ T b
+by-check : {A : Type 0} (b : Bool) (v : A) → (after (cond b (given tt) (refusedFor NotWhole)) (given v) ≡ refused (bare 6)) ↔ ¬ T b
 by-check true v = (λ e. let none : _≡_ {A = ℕ} 0 1 = cc in absurd (omega arith), λ h. absurd (h tt))
 by-check false v = (λ e t. t, λ h. refl)
 

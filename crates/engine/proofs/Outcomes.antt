@@ -11,7 +11,8 @@ use lib.ListN.{getD, List·getD-map}
 use lib.IntN.{ℤ, pos, natAbs}
 use lib.Ieee.{Float, nan, eq, ofBits, ofInt, toSigned}
 use Rattle.vector.specs.Arithmetic.{float0, float1}
-use Rattle.vector.specs.Refusals.{Outcome, given, refused, refusedFor, after, over}
+use Rattle.vector.specs.declared.refusal.Place.the-variants.{First}
+use Rattle.vector.specs.Refusals.{Outcome, given, refused, Meant, refusedFor, after, over}
 use Rattle.vector.specs.declared.refusal.Refusal.the-variants.{NotWhole}
 use Rattle.matrix.specs.Records.{array4, embed24, embed34}
 use Rattle.vector.proofs.Checks.{passes}
@@ -49,8 +50,8 @@ pub given-after : {A : Type 0} (check : Outcome Unit) {v w : A} → check ≡ gi
 given-after check h e = rw h (ap given e)
 
 -- a refusal of the check
-pub refused-after : {A : Type 0} (check : Outcome Unit) (o : Outcome A) (n : ℕ) → check ≡ refused n → refused n ≡ after check o
-refused-after check o n h = rw h
+pub refused-after : {A : Type 0} (check : Outcome Unit) (o : Outcome A) (why : Meant) → check ≡ refused why → refused why ≡ after check o
+refused-after check o why h = rw h
 
 -- ---- the whole numbers of an array
 
@@ -132,7 +133,7 @@ sum-refused a cause is = ap (λ (a : NumberAnswer). over undoableSum (numberOutc
 -- the test goes after the check
 pub sum-tested : (check : Outcome Unit) (z : ℤ) → over undoableSum (after check (given z)) ≡ after check (given (undoableSum z))
 sum-tested (given u) z = refl
-sum-tested (refused n) z = refl
+sum-tested (refused why) z = refl
 
 -- ---- a place, then the check
 
@@ -141,21 +142,21 @@ pub given-placed : {A : Type 0} (p q t : Outcome Unit) {v w : A} → p ≡ given
 given-placed p q t a b c e = rw (a, b, c) (ap given e)
 
 -- the third check refuses
-pub refused-placed : {A : Type 0} (p q t : Outcome Unit) (o : Outcome A) (n : ℕ) → p ≡ given tt → q ≡ given tt → t ≡ refused n → refused n ≡ after p (after q (after t o))
-refused-placed p q t o n a b c = rw (a, b, c)
+pub refused-placed : {A : Type 0} (p q t : Outcome Unit) (o : Outcome A) (why : Meant) → p ≡ given tt → q ≡ given tt → t ≡ refused why → refused why ≡ after p (after q (after t o))
+refused-placed p q t o why a b c = rw (a, b, c)
 
 -- the same places, another check and another value where the places are below the order
 pub placed-same : (n : ℕ) (c : Column) (r : Row) (p q : Outcome Unit) (v w : ℤ) → p ≡ q → (c .0 < n → r .0 < n → v ≡ w)
-    → after (columnBelow n c) (after (rowBelow n r) (after p (given v))) ≡ after (columnBelow n c) (after (rowBelow n r) (after q (given w)))
-placed-same n c r p q v w same values = by-column (columnBelow n c) (λ e. passes n (c .0) e)
+    → after (columnBelow n First c) (after (rowBelow n First r) (after p (given v))) ≡ after (columnBelow n First c) (after (rowBelow n First r) (after q (given w)))
+placed-same n c r p q v w same values = by-column (columnBelow n First c) (λ e. passes _ n (c .0) e)
   where
     by-row : (o : Outcome Unit) → (o ≡ given tt → r .0 < n) → c .0 < n → after o (after p (given v)) ≡ after o (after q (given w))
     by-row (given u) below h = rw (same, values h (below refl))
-    by-row (refused k) below h = refl
+    by-row (refused why) below h = refl
 
-    by-column : (o : Outcome Unit) → (o ≡ given tt → c .0 < n) → after o (after (rowBelow n r) (after p (given v))) ≡ after o (after (rowBelow n r) (after q (given w)))
-    by-column (given u) below = by-row (rowBelow n r) (λ e. passes n (r .0) e) (below refl)
-    by-column (refused k) below = refl
+    by-column : (o : Outcome Unit) → (o ≡ given tt → c .0 < n) → after o (after (rowBelow n First r) (after p (given v))) ≡ after o (after (rowBelow n First r) (after q (given w)))
+    by-column (given u) below = by-row (rowBelow n First r) (λ e. passes _ n (r .0) e) (below refl)
+    by-column (refused why) below = refl
 
 -- matrices that are alike below the order have the same cofactors
 pub cofactor-ext : (n : ℕ) → 0 < n → (m w : Matrix) → ((c r : ℕ) → c < n → r < n → m c r ≡ w c r) → (c r : ℕ) → c < n → r < n → cofactorOf n m c r ≡ cofactorOf n w c r
@@ -170,7 +171,7 @@ corner-cofactor n e d c r some same = cofactor-ext n some (numbers e) (numbers d
 
 -- the cofactor among the first n columns and rows of a matrix of order 4
 abbrev placed : ℕ → Column → Row → Matrix4 → Outcome ℤ
-placed n c r w = after (columnBelow n c) (after (rowBelow n r) (after (taken 1024 4 (floats4 w)) (given (cofactorOf n (numbers (floats4 w)) (c .0) (r .0)))))
+placed n c r w = after (columnBelow n First c) (after (rowBelow n First r) (after (taken 1024 4 (floats4 w)) (given (cofactorOf n (numbers (floats4 w)) (c .0) (r .0)))))
 
 -- in the corner it is the matrix's
 pub corner-cofactor2 : (m : Matrix2) (w : Matrix4) (c : Column) (r : Row) (o : Outcome ℤ) → w ≡ embed24 m → o ≡ placed 2 c r w → o ≡ cofactor 1024 2 (floats2 m) c r

@@ -17,7 +17,7 @@ use Rattle.whole.proofs.Ring.{mul-one, abs-neg}
 use Rattle.exact.specs.Value.{Exact, exactly, Whole}
 use Rattle.exact.proofs.Integers.{whole-test}
 use Rattle.exact.proofs.Order.{exact-at-most}
-use Rattle.vector.specs.Refusals.{Outcome, given, refused, refusedFor}
+use Rattle.vector.specs.Refusals.{Outcome, given, refused, bare, refusedFor}
 use Rattle.vector.specs.declared.refusal.Refusal.the-variants.{NotWhole}
 use Rattle.engine.specs.Whole.{wholeNumber, isWhole, Floats, wholeEntries, AllWhole}
 use Rattle.engine.specs.Engine.{taken, TakenExactly}
@@ -46,7 +46,7 @@ whole-entries limit n e small =
     )
 
 -- a test that refuses with 6 where it does not pass
-six-elsewhere : (b : Bool) (S : Type 0) → T b ↔ S → let o : Outcome Unit = cond b (given tt) (refusedFor NotWhole) in ((o ≡ given tt) ↔ S) × ((o ≡ refused 6) ↔ ¬ S)
+six-elsewhere : (b : Bool) (S : Type 0) → T b ↔ S → let o : Outcome Unit = cond b (given tt) (refusedFor NotWhole) in ((o ≡ given tt) ↔ S) × ((o ≡ refused (bare 6)) ↔ ¬ S)
 six-elsewhere true S is = ((λ e. is .0 tt, λ s. refl), (λ e. let none : _≡_ {A = ℕ} 0 1 = cc in absurd (omega arith), λ none. absurd (none (is .0 tt))))
 six-elsewhere false S is = ((λ e. let none : _≡_ {A = ℕ} 0 1 = cc in absurd (omega arith), λ s. absurd (is .1 s)), (λ e s. is .1 s, λ none. refl))
 

@@ -8,7 +8,7 @@ use Prim.Native.Nat.{ℕ, _^_, _<_}
 use lib.Dec.{T}
 use lib.IntN.{ℤ, pos, natAbs, _*ℤ_}
 use lib.Ieee.{Float, binary64, ofInt}
-use Rattle.vector.specs.Refusals.{Outcome, given, refused}
+use Rattle.vector.specs.Refusals.{Outcome, given, refused, Meant, bare}
 use Rattle.vector.specs.Vectors.{entry, entries2, entries3, entries4}
 use Rattle.vector.specs.declared.Vector2.{Vector2}
 use Rattle.vector.specs.declared.Vector3.{Vector3}
@@ -136,15 +136,15 @@ OwnNumbers p limit = (m : p .Matrix) → WholeEntries p limit m → (c r : ℕ) 
 
 -- the engine refuses with 6, giving no number and no yes or no, exactly where some entry is not a whole number within the limit
 abbrev pub RefusedElsewhere : Port → ℕ → Type 0
-RefusedElsewhere p limit = (m : p .Matrix) → ((signedSum limit (p .order) (p .entries m) ≡ refused 6) ↔ ¬ WholeEntries p limit m) × ((undoable limit (p .order) (p .entries m) ≡ refused 6) ↔ ¬ WholeEntries p limit m)
+RefusedElsewhere p limit = (m : p .Matrix) → ((signedSum limit (p .order) (p .entries m) ≡ refused (bare 6)) ↔ ¬ WholeEntries p limit m) × ((undoable limit (p .order) (p .entries m) ≡ refused (bare 6)) ↔ ¬ WholeEntries p limit m)
 
 -- 1. "The determinant numerically equals the exact signed sum": it is finite and its exact value is that number
 abbrev pub DeterminantIsSum : Port → ℕ → Type 0
 DeterminantIsSum p limit = (m : p .Matrix) → WholeEntries p limit m → Exact (p .determinant m) (sumOf p m) 0
 
--- 2. "Inversion is refused exactly when that sum is zero": and with the number 2
+-- 2. "Inversion is refused exactly when that sum is zero": and with the number 2, which has no place
 abbrev pub RefusedExactly : Port → ℕ → Type 0
-RefusedExactly p limit = (m : p .Matrix) → WholeEntries p limit m → (n : ℕ) → (p .invert m ≡ refused n) ↔ ((n ≡ 2) × (sumOf p m ≡ pos 0))
+RefusedExactly p limit = (m : p .Matrix) → WholeEntries p limit m → (why : Meant) → (p .invert m ≡ refused why) ↔ ((why ≡ bare 2) × (sumOf p m ≡ pos 0))
 
 -- 3. "matrix times inverse equals the identity numerically, either way round, and a whole vector moved there and back is the same vector numerically"
 pub record Undoes (p : Port) (vectors : ℕ) (m i : p .Matrix) : Type 0 where

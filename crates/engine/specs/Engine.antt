@@ -1,5 +1,5 @@
 -- Document 01, 'The exact engine': what the exact engine answers, said once over the order.
--- Each outcome is refusal 6, or the number, or the yes or no; a cofactor is beyond that paper, and also has refusal 1 for its place. Assumes nothing.
+-- Each outcome is refusal 6, or the number, or the yes or no; a cofactor is beyond that paper, and also has refusals 11 and 12 for its place (document 02, No. 1, 'Say column or row'). Assumes nothing.
 use mathlib.Core.Path.{_≡_}
 use mathlib.Core.Logic.{_↔_}
 use mathlib.Core.Bool.{Bool, cond}
@@ -7,7 +7,8 @@ use Prim.Native.Nat.{ℕ, _-_, _^_}
 use lib.Dec.{T, eqb}
 use lib.Count.{ones}
 use lib.IntN.{ℤ, natAbs, _*ℤ_}
-use Rattle.vector.specs.Refusals.{Outcome, given, refused, refusedFor, after}
+use Rattle.vector.specs.declared.refusal.Place.the-variants.{First}
+use Rattle.vector.specs.Refusals.{Outcome, given, refused, bare, refusedFor, after}
 use Rattle.vector.specs.declared.refusal.Refusal.the-variants.{NotWhole}
 use Rattle.matrix.specs.Places.{columnBelow, rowBelow}
 use Rattle.matrix.specs.declared.places.Column.{Column}
@@ -36,9 +37,9 @@ undoableOutcome (verdict.Refused cause) = refusedFor cause
 unfoldable pub taken : (limit n : ℕ) → Floats → Outcome Unit
 taken limit n e = cond (wholeEntries limit n e) (given tt) (refusedFor NotWhole)
 
--- refusal 6 in plain words: nothing is refused exactly where the exact value of each entry is a whole number of magnitude at most the limit (-0.0 is 0), and 6 is the number elsewhere; shown in proofs/Taken.antt for every limit below 2 ^ 53
+-- refusal 6 in plain words: nothing is refused exactly where the exact value of each entry is a whole number of magnitude at most the limit (-0.0 is 0), and it is 6, which has no place, elsewhere; shown in proofs/Taken.antt for every limit below 2 ^ 53
 abbrev pub TakenExactly : ℕ → Type 0
-TakenExactly limit = (n : ℕ) (e : Floats) → ((taken limit n e ≡ given tt) ↔ AllWhole limit n e) × ((taken limit n e ≡ refused 6) ↔ ¬ AllWhole limit n e)
+TakenExactly limit = (n : ℕ) (e : Floats) → ((taken limit n e ≡ given tt) ↔ AllWhole limit n e) × ((taken limit n e ≡ refused (bare 6)) ↔ ¬ AllWhole limit n e)
 
 -- the signed sum over all column orders: 2, 6 or 24 terms
 abbrev pub signedSum : (limit n : ℕ) → Floats → Outcome ℤ
@@ -60,9 +61,9 @@ undoable limit n e = after (taken limit n e) (given (undoableSum (signed-sum n (
 abbrev pub cofactorOf : ℕ → Matrix → ℕ → ℕ → ℤ
 cofactorOf n m c r = parity c *ℤ parity r *ℤ signed-sum (n - 1) (λ d s. m (skip c d) (skip r s))
 
--- the cofactor as an outcome: refusal 1 for the place, then refusal 6
+-- the cofactor as an outcome: its place is a column and then a row of one place, 11, first, then 12, first; then refusal 6
 abbrev pub cofactor : (limit n : ℕ) → Floats → Column → Row → Outcome ℤ
-cofactor limit n e c r = after (columnBelow n c) (after (rowBelow n r) (after (taken limit n e) (given (cofactorOf n (numbers e) (c .0) (r .0)))))
+cofactor limit n e c r = after (columnBelow n First c) (after (rowBelow n First r) (after (taken limit n e) (given (cofactorOf n (numbers e) (c .0) (r .0)))))
 
 -- ---- what is claimed of these, beside the promises
 

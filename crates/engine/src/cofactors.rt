@@ -4,6 +4,7 @@ ghost use mathlib.Core.Path.{_≡_};
 ghost use Prim.Native.Nat.{ℕ, _≤_, _<_};
 ghost use lib.ListN.{getD};
 ghost use lib.IntN.{pos, natAbs};
+ghost use Rattle.vector.specs.declared.refusal.Place.the-variants.{First};
 ghost use Rattle.vector.specs.Refusals.{given, after};
 ghost use Rattle.matrix.specs.Places.{columnBelow, rowBelow};
 ghost use Rattle.whole.specs.Order.{skip};
@@ -17,23 +18,24 @@ use matrix::Matrix2;
 use matrix::Matrix3;
 use matrix::Matrix4;
 use matrix::Row;
+use vector::Place;
 use vector::Refusal;
 
-// The cofactor of a place at order 2: refusal 1 for the place, then refusal 6.
+// The cofactor of a place at order 2: refusal 11 or 12, first, for the place, then refusal 6.
 pub fn cofactor2(m: Matrix2, c: Column, r: Row) -> NumberAnswer
     ensures { λ a. ⌜ numberOutcome a ≡ cofactor 1024 2 (floats2 m) c r ⌝ }
 {
     cofactor_answer(Matrix4::from_matrix2(m), 2, c, r)
 }
 
-// The cofactor of a place at order 3: refusal 1 for the place, then refusal 6.
+// The cofactor of a place at order 3: refusal 11 or 12, first, for the place, then refusal 6.
 pub fn cofactor3(m: Matrix3, c: Column, r: Row) -> NumberAnswer
     ensures { λ a. ⌜ numberOutcome a ≡ cofactor 1024 3 (floats3 m) c r ⌝ }
 {
     cofactor_answer(Matrix4::from_matrix3(m), 3, c, r)
 }
 
-// The cofactor of a place at order 4: refusal 1 for the place, then refusal 6.
+// The cofactor of a place at order 4: refusal 11 or 12, first, for the place, then refusal 6.
 pub fn cofactor4(m: Matrix4, c: Column, r: Row) -> NumberAnswer
     ensures { λ a. ⌜ numberOutcome a ≡ cofactor 1024 4 (floats4 m) c r ⌝ }
 {
@@ -43,13 +45,13 @@ pub fn cofactor4(m: Matrix4, c: Column, r: Row) -> NumberAnswer
 // The cofactor of a place among the first n columns and rows.
 fn cofactor_answer(m: Matrix4, n: usize, c: Column, r: Row) -> NumberAnswer
     requires { ⌜ (1 ≤ n) × (n ≤ 4) ⌝ }
-    ensures { λ a. ⌜ numberOutcome a ≡ after (columnBelow n c) (after (rowBelow n r) (after (taken 1024 4 (floats4 m)) (given (cofactorOf n (numbers (floats4 m)) (c .0) (r .0))))) ⌝ }
+    ensures { λ a. ⌜ numberOutcome a ≡ after (columnBelow n First c) (after (rowBelow n First r) (after (taken 1024 4 (floats4 m)) (given (cofactorOf n (numbers (floats4 m)) (c .0) (r .0))))) ⌝ }
 {
     if n <= c.0 {
-        return NumberAnswer::Refused(Refusal::OutOfRange);
+        return NumberAnswer::Refused(Refusal::Column(Place::First));
     }
     if n <= r.0 {
-        return NumberAnswer::Refused(Refusal::OutOfRange);
+        return NumberAnswer::Refused(Refusal::Row(Place::First));
     }
     if entries::whole_entries(m) {
         NumberAnswer::Given(signed_minor(entries::numbers(m), n, c.0, r.0))

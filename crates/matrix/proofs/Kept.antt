@@ -7,14 +7,14 @@ use Rattle.vector.specs.declared.Vector3.{Vector3}
 use Rattle.vector.specs.declared.Vector4.{Vector4}
 use Rattle.vector.specs.declared.Vector3Answer.{Vector3Answer}
 use Rattle.vector.specs.declared.Vector3Answer.the-variants.{Given, Refused}
-use Rattle.vector.specs.Refusals.{Outcome, given, refused, vector3Outcome, after}
+use Rattle.vector.specs.Refusals.{given, vector3Outcome}
 use Rattle.vector.specs.Vectors.{entries4, ofEntries3, without, truncateN4}
 use Rattle.vector.proofs.Checks.{within}
 
 module _ (v : Vector4) (n : ℕ) (answer : Vector3Answer) where
   -- the outcome is given
   outcome : n < 4 → vector3Outcome answer ≡ truncateN4 v n → vector3Outcome answer ≡ given (ofEntries3 (without n (entries4 v)))
-  outcome h e = e ∙ rw (within 4 n h)
+  outcome h e = e ∙ rw (within _ 4 n h)
 
   -- what was given is the vector without its element
   pub kept-given : (u : Vector3) → n < 4 → vector3Outcome answer ≡ truncateN4 v n → answer ≡ Given u → u ≡ ofEntries3 (without n (entries4 v))

@@ -15,7 +15,7 @@ use Rattle.matrix.specs.Places.{checkedOutcome, rowsBelow, columnsBelow,
 -- two checks, one after the other, pass where both do
 pub both : (first second : Outcome Unit) → after first second ≡ given tt → (first ≡ given tt) × (second ≡ given tt)
 both (given u) second e = (refl, e)
-both (refused n) second e = let none : _≡_ {A = ℕ} 0 1 = cc in absurd (omega arith)
+both (refused why) second e = let none : _≡_ {A = ℕ} 0 1 = cc in absurd (omega arith)
 
 module _ (found : Checked) (check : Outcome Unit) (is : checkedOutcome found ≡ check) where
   -- a test that found nothing passes
@@ -33,12 +33,12 @@ module _ (found : Checked) (check : Outcome Unit) (is : checkedOutcome found ≡
 -- both rows are below the order
 pub rows-within : (n : ℕ) (a b : Row) → rowsBelow n a b ≡ given tt → (a .0 < n) × (b .0 < n)
 unfolding rowsBelow
-rows-within n a b e = let p = both _ _ e in (passes n _ (p .0), passes n _ (p .1))
+rows-within n a b e = let p = both _ _ e in (passes _ n _ (p .0), passes _ n _ (p .1))
 
 -- both columns are below the order
 pub columns-within : (n : ℕ) (a b : Column) → columnsBelow n a b ≡ given tt → (a .0 < n) × (b .0 < n)
 unfolding columnsBelow
-columns-within n a b e = let p = both _ _ e in (passes n _ (p .0), passes n _ (p .1))
+columns-within n a b e = let p = both _ _ e in (passes _ n _ (p .0), passes _ n _ (p .1))
 
 -- both places are below the order
 pub elements-within : (n : ℕ) (ac : Column) (ar : Row) (bc : Column) (br : Row) → elementsBelow n ac ar bc br ≡ given tt → (ac .0 < n) × (ar .0 < n) × (bc .0 < n) × (br .0 < n)
@@ -47,4 +47,4 @@ elements-within n ac ar bc br e =
     let p = both _ _ e in
     let q = both _ _ (p .1) in
     let r = both _ _ (q .1) in
-    (passes n _ (p .0), passes n _ (q .0), passes n _ (r .0), passes n _ (r .1))
+    (passes _ n _ (p .0), passes _ n _ (q .0), passes _ n _ (r .0), passes _ n _ (r .1))

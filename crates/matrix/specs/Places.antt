@@ -1,10 +1,14 @@
 -- Document 01, 'Modules, leaves first', 3, and 'Rules of the arithmetic': row, diagonal, transpose and the swaps. Entries are carried untouched.
+-- Document 02, No. 1, 'Say column or row': what their range tests name.
 -- The range tests and the swaps are said once, whatever the order. A comment holds for the orders below it. Assumes nothing.
 use Prim.Native.Nat.{ℕ}
 use mathlib.Core.List.{List, [], map}
 use lib.ListN.{getD, set}
 use lib.Ieee.{Float, nan}
 use Rattle.vector.specs.Refusals.{Outcome, given, refusedFor, after, belowLimit}
+use Rattle.vector.specs.declared.refusal.Place.{Place}
+use Rattle.vector.specs.declared.refusal.Place.the-variants.{First, Second}
+use Rattle.vector.specs.declared.refusal.Refusal.the-variants as cause
 use Rattle.vector.specs.Vectors.{vector2, vector3, vector4, entry}
 use Rattle.vector.specs.declared.Vector2.{Vector2}
 use Rattle.vector.specs.declared.Vector3.{Vector3}
@@ -18,32 +22,32 @@ use Rattle.matrix.specs.declared.records.Matrix2.{Matrix2}
 use Rattle.matrix.specs.declared.records.Matrix3.{Matrix3}
 use Rattle.matrix.specs.declared.records.Matrix4.{Matrix4}
 
--- ---- the range tests, at order n: refusal 1, or nothing found
+-- ---- the range tests, at order n: refusal 11 or 12 with its place, or nothing found
 
 -- what a range test answers
 abbrev pub checkedOutcome : Checked → Outcome Unit
 checkedOutcome Within = given tt
 checkedOutcome (Outside cause) = refusedFor cause
 
--- the row number is below the order
-abbrev pub rowBelow : ℕ → Row → Outcome Unit
-rowBelow n r = belowLimit n (r .0)
+-- the row number, the first or the second (a lone one is the first), is below the order: else 12
+abbrev pub rowBelow : ℕ → Place → Row → Outcome Unit
+rowBelow n place r = belowLimit (cause.Row place) n (r .0)
 
--- the column number is below the order
-abbrev pub columnBelow : ℕ → Column → Outcome Unit
-columnBelow n c = belowLimit n (c .0)
+-- the column number, the first or the second (a lone one is the first), is below the order: else 11
+abbrev pub columnBelow : ℕ → Place → Column → Outcome Unit
+columnBelow n place c = belowLimit (cause.Column place) n (c .0)
 
--- both row numbers are
+-- row swaps test rows only
 unfoldable pub rowsBelow : ℕ → Row → Row → Outcome Unit
-rowsBelow n a b = after (rowBelow n a) (rowBelow n b)
+rowsBelow n a b = after (rowBelow n First a) (rowBelow n Second b)
 
--- both column numbers are
+-- column swaps test columns only
 unfoldable pub columnsBelow : ℕ → Column → Column → Outcome Unit
-columnsBelow n a b = after (columnBelow n a) (columnBelow n b)
+columnsBelow n a b = after (columnBelow n First a) (columnBelow n Second b)
 
--- both places are, each a column first and then a row
+-- the numbers are tested in the order first column, first row, second column, second row
 unfoldable pub elementsBelow : ℕ → Column → Row → Column → Row → Outcome Unit
-elementsBelow n ac ar bc br = after (columnBelow n ac) (after (rowBelow n ar) (after (columnBelow n bc) (rowBelow n br)))
+elementsBelow n ac ar bc br = after (columnBelow n First ac) (after (rowBelow n First ar) (after (columnBelow n Second bc) (rowBelow n Second br)))
 
 -- ---- on an array of columns, m[c][r] being column c, row r
 
@@ -85,13 +89,13 @@ swapElements m ac ar bc br = put (put m ac ar (at m bc br)) bc br (at m ac ar)
 
 -- row r
 abbrev pub row2 : Matrix2 → Row → Outcome Vector2
-row2 m r = after (rowBelow order2 r) (given (rowOf2 (array2 m) (r .0)))
+row2 m r = after (rowBelow order2 First r) (given (rowOf2 (array2 m) (r .0)))
 
 abbrev pub row3 : Matrix3 → Row → Outcome Vector3
-row3 m r = after (rowBelow order3 r) (given (rowOf3 (array3 m) (r .0)))
+row3 m r = after (rowBelow order3 First r) (given (rowOf3 (array3 m) (r .0)))
 
 abbrev pub row4 : Matrix4 → Row → Outcome Vector4
-row4 m r = after (rowBelow order4 r) (given (rowOf4 (array4 m) (r .0)))
+row4 m r = after (rowBelow order4 First r) (given (rowOf4 (array4 m) (r .0)))
 
 -- the entries m[i][i]
 abbrev pub diagonal2 : Matrix2 → Vector2

@@ -1,4 +1,4 @@
-// Row, diagonal, transpose and the swaps by value: document 01, 'Modules, leaves first', 3.
+// Row, diagonal, transpose and the swaps by value: document 01, 'Modules, leaves first', 3; what their range tests name: document 02, No. 1, 'Say column or row'.
 ghost use mathlib.Core.Path.{_≡_};
 ghost use Prim.Native.Nat.{_<_};
 ghost use lib.Ieee.{nan};
@@ -19,6 +19,7 @@ use crate::records::Matrix3;
 use crate::records::Matrix3Answer;
 use crate::records::Matrix4;
 use crate::records::Matrix4Answer;
+use vector::Place;
 use vector::Refusal;
 use vector::Vector2;
 use vector::Vector2Answer;
@@ -51,48 +52,50 @@ impl Checked {
     }
 }
 
-// Whether the row number is below the order.
-pub(crate) fn check_row(order: usize, r: Row) -> Checked
-    ensures { λ c. ⌜ checkedOutcome c ≡ rowBelow order r ⌝ }
+// Whether the row number, the first or the second, is below the order: refusal 12.
+pub(crate) fn check_row(order: usize, place: Place, r: Row) -> Checked
+    ensures { λ c. ⌜ checkedOutcome c ≡ rowBelow order place r ⌝ }
 {
     if r.0 < order {
         Checked::Within
     } else {
-        Checked::Outside(Refusal::OutOfRange)
+        Checked::Outside(Refusal::Row(place))
     }
 }
 
-// Whether the column number is below the order.
-pub(crate) fn check_column(order: usize, c: Column) -> Checked
-    ensures { λ r. ⌜ checkedOutcome r ≡ columnBelow order c ⌝ }
+// Whether the column number, the first or the second, is below the order: refusal 11.
+pub(crate) fn check_column(order: usize, place: Place, c: Column) -> Checked
+    ensures { λ r. ⌜ checkedOutcome r ≡ columnBelow order place c ⌝ }
 {
     if c.0 < order {
         Checked::Within
     } else {
-        Checked::Outside(Refusal::OutOfRange)
+        Checked::Outside(Refusal::Column(place))
     }
 }
 
-// Whether both row numbers are below the order.
+// Whether both row numbers are below the order, the first tested first.
 pub(crate) fn check_rows(order: usize, a: Row, b: Row) -> Checked
     ensures { λ c. ⌜ checkedOutcome c ≡ rowsBelow order a b ⌝ }
 {
-    check_row(order, a).then(check_row(order, b))
+    check_row(order, Place::First, a).then(check_row(order, Place::Second, b))
 }
 
-// Whether both column numbers are below the order.
+// Whether both column numbers are below the order, the first tested first.
 pub(crate) fn check_columns(order: usize, a: Column, b: Column) -> Checked
     ensures { λ c. ⌜ checkedOutcome c ≡ columnsBelow order a b ⌝ }
 {
-    check_column(order, a).then(check_column(order, b))
+    check_column(order, Place::First, a).then(check_column(order, Place::Second, b))
 }
 
-// Whether both places, each a column first and then a row, lie below the order.
+// Whether the four numbers are below the order: the first column, the first row, the second column, the second row, in this order.
 pub(crate) fn check_elements(order: usize, ac: Column, ar: Row, bc: Column, br: Row) -> Checked
     ensures { λ c. ⌜ checkedOutcome c ≡ elementsBelow order ac ar bc br ⌝ }
 {
-    let second = check_column(order, bc).then(check_row(order, br));
-    check_column(order, ac).then(check_row(order, ar).then(second))
+    let column = check_column(order, Place::First, ac);
+    let row = check_row(order, Place::First, ar);
+    let second = check_column(order, Place::Second, bc).then(check_row(order, Place::Second, br));
+    column.then(row.then(second))
 }
 
 // The column with entries i and j exchanged.
@@ -139,11 +142,11 @@ fn elements_swapped2(m: [[f64; 2]; 2], ac: usize, ar: usize, bc: usize, br: usiz
 }
 
 impl Matrix2 {
-    // Row r, or refusal 1.
+    // Row r, or refusal 12, first.
     pub fn row(self, r: Row) -> Vector2Answer
         ensures { λ a. ⌜ vector2Outcome a ≡ row2 self r ⌝ }
     {
-        match check_row(Matrix2::ORDER, r) {
+        match check_row(Matrix2::ORDER, Place::First, r) {
             Checked::Outside(cause) => Vector2Answer::Refused(cause),
             Checked::Within => Vector2Answer::Given(row_of2(self.into_array(), r.0)),
         }
@@ -163,7 +166,7 @@ impl Matrix2 {
         Matrix2::from_array([[self.x.x, self.y.x], [self.x.y, self.y.y]])
     }
 
-    // Rows a and b exchanged, or refusal 1.
+    // Rows a and b exchanged, or refusal 12.
     pub fn swap_rows(self, a: Row, b: Row) -> Matrix2Answer
         ensures { λ r. ⌜ matrix2Outcome r ≡ swapRows2 self a b ⌝ }
     {
@@ -173,7 +176,7 @@ impl Matrix2 {
         }
     }
 
-    // Columns a and b exchanged, or refusal 1.
+    // Columns a and b exchanged, or refusal 11.
     pub fn swap_columns(self, a: Column, b: Column) -> Matrix2Answer
         ensures { λ r. ⌜ matrix2Outcome r ≡ swapColumns2 self a b ⌝ }
     {
@@ -186,7 +189,7 @@ impl Matrix2 {
         }
     }
 
-    // The entry in column ac, row ar and the one in column bc, row br exchanged, or refusal 1.
+    // The entry in column ac, row ar and the one in column bc, row br exchanged, or refusal 11 or 12.
     pub fn swap_elements(self, ac: Column, ar: Row, bc: Column, br: Row) -> Matrix2Answer
         ensures { λ r. ⌜ matrix2Outcome r ≡ swapElements2 self ac ar bc br ⌝ }
     {
@@ -255,11 +258,11 @@ fn elements_swapped3(m: [[f64; 3]; 3], ac: usize, ar: usize, bc: usize, br: usiz
 }
 
 impl Matrix3 {
-    // Row r, or refusal 1.
+    // Row r, or refusal 12, first.
     pub fn row(self, r: Row) -> Vector3Answer
         ensures { λ a. ⌜ vector3Outcome a ≡ row3 self r ⌝ }
     {
-        match check_row(Matrix3::ORDER, r) {
+        match check_row(Matrix3::ORDER, Place::First, r) {
             Checked::Outside(cause) => Vector3Answer::Refused(cause),
             Checked::Within => Vector3Answer::Given(row_of3(self.into_array(), r.0)),
         }
@@ -283,7 +286,7 @@ impl Matrix3 {
         ])
     }
 
-    // Rows a and b exchanged, or refusal 1.
+    // Rows a and b exchanged, or refusal 12.
     pub fn swap_rows(self, a: Row, b: Row) -> Matrix3Answer
         ensures { λ r. ⌜ matrix3Outcome r ≡ swapRows3 self a b ⌝ }
     {
@@ -293,7 +296,7 @@ impl Matrix3 {
         }
     }
 
-    // Columns a and b exchanged, or refusal 1.
+    // Columns a and b exchanged, or refusal 11.
     pub fn swap_columns(self, a: Column, b: Column) -> Matrix3Answer
         ensures { λ r. ⌜ matrix3Outcome r ≡ swapColumns3 self a b ⌝ }
     {
@@ -306,7 +309,7 @@ impl Matrix3 {
         }
     }
 
-    // The entry in column ac, row ar and the one in column bc, row br exchanged, or refusal 1.
+    // The entry in column ac, row ar and the one in column bc, row br exchanged, or refusal 11 or 12.
     pub fn swap_elements(self, ac: Column, ar: Row, bc: Column, br: Row) -> Matrix3Answer
         ensures { λ r. ⌜ matrix3Outcome r ≡ swapElements3 self ac ar bc br ⌝ }
     {
@@ -376,11 +379,11 @@ fn elements_swapped4(m: [[f64; 4]; 4], ac: usize, ar: usize, bc: usize, br: usiz
 }
 
 impl Matrix4 {
-    // Row r, or refusal 1.
+    // Row r, or refusal 12, first.
     pub fn row(self, r: Row) -> Vector4Answer
         ensures { λ a. ⌜ vector4Outcome a ≡ row4 self r ⌝ }
     {
-        match check_row(Matrix4::ORDER, r) {
+        match check_row(Matrix4::ORDER, Place::First, r) {
             Checked::Outside(cause) => Vector4Answer::Refused(cause),
             Checked::Within => Vector4Answer::Given(row_of4(self.into_array(), r.0)),
         }
@@ -405,7 +408,7 @@ impl Matrix4 {
         ])
     }
 
-    // Rows a and b exchanged, or refusal 1.
+    // Rows a and b exchanged, or refusal 12.
     pub fn swap_rows(self, a: Row, b: Row) -> Matrix4Answer
         ensures { λ r. ⌜ matrix4Outcome r ≡ swapRows4 self a b ⌝ }
     {
@@ -415,7 +418,7 @@ impl Matrix4 {
         }
     }
 
-    // Columns a and b exchanged, or refusal 1.
+    // Columns a and b exchanged, or refusal 11.
     pub fn swap_columns(self, a: Column, b: Column) -> Matrix4Answer
         ensures { λ r. ⌜ matrix4Outcome r ≡ swapColumns4 self a b ⌝ }
     {
@@ -428,7 +431,7 @@ impl Matrix4 {
         }
     }
 
-    // The entry in column ac, row ar and the one in column bc, row br exchanged, or refusal 1.
+    // The entry in column ac, row ar and the one in column bc, row br exchanged, or refusal 11 or 12.
     pub fn swap_elements(self, ac: Column, ar: Row, bc: Column, br: Row) -> Matrix4Answer
         ensures { λ r. ⌜ matrix4Outcome r ≡ swapElements4 self ac ar bc br ⌝ }
     {

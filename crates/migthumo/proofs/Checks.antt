@@ -9,12 +9,14 @@ use native.Mathlib.Omega.{arith}
 use lib.Dec.{leb, ltb, eqb}
 use borrow.Author.Tests.{leb-true, ltb-true, le-leb, lt-leb, lt-ltb, le-ltb}
 use Rattle.vector.specs.declared.refusal.Refusal.{Refusal}
-use Rattle.vector.specs.declared.refusal.Refusal.the-variants.{OutOfRange, Singular, InputLength, OutputLength, Order, NotWhole}
-use Rattle.vector.specs.Refusals.{Outcome, given, refused, refusedFor, number, after}
+use Rattle.vector.specs.declared.refusal.Refusal.the-variants.{InputLength, OutputLength, Order}
+use Rattle.vector.specs.Refusals.{Outcome, given, refused, refusedFor, after}
+use Rattle.vector.proofs.Checks.{passed}
 use Rattle.matrix.proofs.Ranges.{both}
 use Rattle.bulk.specs.Refusals.{orderFrom, numberIs}
-use Rattle.bulk.proofs.Checks.{passed, both-true, order-is, length-is}
+use Rattle.bulk.proofs.Checks.{both-true, order-is, length-is}
 use Rattle.migthumo.specs.Entries.{code, lengthsAre, entryFits, ordersEmbed, fitsTo}
+use Rattle.migthumo.proofs.Told.{code-tells}
 
 -- ---- the widths
 
@@ -37,15 +39,10 @@ power2 n w e = rw (e, square)
 abbrev Clear : Outcome Unit → Type 0
 Clear o = code o ≡ 0 → o ≡ given tt
 
--- so it is with each single test, since no cause has the number 0
+-- so it is with each single test, since no cause answers 0
 clear-test : (b : Bool) (cause : Refusal) → Clear (cond b (given tt) (refusedFor cause))
 clear-test true cause e = refl
-clear-test false OutOfRange e = absurd (omega (arith, e))
-clear-test false Singular e = absurd (omega (arith, e))
-clear-test false InputLength e = absurd (omega (arith, e))
-clear-test false OutputLength e = absurd (omega (arith, e))
-clear-test false Order e = absurd (omega (arith, e))
-clear-test false NotWhole e = absurd (omega (arith, e))
+clear-test false cause e = let above = code-tells .above-one cause in absurd (omega (arith, e, above))
 
 clear-order : (least order : ℕ) → Clear (orderFrom least order)
 unfolding orderFrom
@@ -58,7 +55,7 @@ clear-length cause length wanted = clear-test (eqb length wanted) cause
 -- and with two tests, one after the other
 clear-after : (first second : Outcome Unit) → Clear first → Clear second → Clear (after first second)
 clear-after (given u) second one two e = two e
-clear-after (refused n) second one two e = one e
+clear-after (refused why) second one two e = one e
 
 clear-lengths : (inputs : List ℕ) (wanted : ℕ) → Clear (lengthsAre inputs wanted)
 clear-lengths [] wanted e = refl
@@ -115,7 +112,7 @@ input2 {order = order} {a = a} {b = b} {inputs = inputs} f n at =
 -- a matrix that is named twice is tested as if named once
 twice : (o p : Outcome Unit) → after o (after o p) ≡ after o p
 twice (given u) p = refl
-twice (refused n) p = refl
+twice (refused why) p = refl
 
 pub named-once : (least order m width out : ℕ) → entryFits least order (m ∷ m ∷ []) width out ≡ entryFits least order (m ∷ []) width out
 unfolding entryFits
@@ -143,7 +140,7 @@ embed-taken order to low above high = simp (le-leb 2 order low, lt-ltb order to 
 orders-are : (order to : ℕ) → ordersEmbed order to ≡ given tt → (2 ≤ order) × ((order < to) × (to ≤ 4))
 unfolding ordersEmbed
 orders-are order to e =
-    let t = both-true _ _ (passed _ 5 e) in
+    let t = both-true _ _ (passed _ _ e) in
     let u = both-true _ _ (t .1) in
     (leb-true 2 order (t .0), (ltb-true order to (u .0), leb-true to 4 (u .1)))
 

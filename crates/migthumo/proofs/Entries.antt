@@ -21,7 +21,7 @@ use Rattle.migthumo.proofs.Checks.{Fitted}
 
 stopped : {A : Type 0} {r : ℕ} {entry : A} (check : Outcome Unit) (outcome : Outcome A) → r ≡ code check → (r ≡ 0 → ⊥) → Answers r entry entry (after check outcome)
 stopped (given u) outcome is found = absurd (found is)
-stopped (refused n) outcome is found = record { answer = is; left = refl }
+stopped (refused why) outcome is found = record { answer = is; left = refl }
 
 module _ {A : Type 0} {r : ℕ} {entry : List A} where
   pub stopped-one : (width order out : ℕ) (m : List Float) (f : Matrix2 → Outcome (List A)) (g : Matrix3 → Outcome (List A)) (h : Matrix4 → Outcome (List A))
@@ -103,7 +103,7 @@ module _ {r : ℕ} {entry exit : List Float} {made : Outcome (List Float)} (told
 -- done or refused, the number is the same
 of-done : {A : Type 0} (outcome : Outcome A) → code (done outcome) ≡ code outcome
 of-done (given a) = refl
-of-done (refused n) = refl
+of-done (refused why) = refl
 
 pub passed-on : {A : Type 0} {r : ℕ} {entry exit : A} {outcome : Outcome A} (said : Outcome Unit) → r ≡ code said → said ≡ done outcome → exit ≡ leaves entry outcome → Answers r entry exit outcome
 passed-on {outcome = outcome} said is e put = record { answer = is ∙ ap code e ∙ of-done outcome; left = put }

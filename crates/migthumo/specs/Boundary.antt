@@ -175,4 +175,4 @@ fromAxisAngle order axis s c out = rotationOf order out (rotations.fromAxisAngle
 
 -- raised whenever the signature of an entry, or what it answers, changes
 abbrev pub version : ℕ
-version = 1
+version = 2

@@ -4,6 +4,7 @@ ghost use Rattle.matrix.specs.InPlace.{swappedOutcome};
 ghost use Rattle.matrix.specs.Places.{swapRows4, swapColumns4, swapElements4};
 ghost use Rattle.migthumo.specs.Entries.{code, Answers};
 ghost use Rattle.migthumo.specs.Flat.{columnAt, rowAt};
+use crate::code;
 use matrix::Column;
 use matrix::Matrix4;
 use matrix::Row;
@@ -15,11 +16,11 @@ pub(crate) fn said(answer: Swapped) -> u32
 {
     match answer {
         Swapped::Done => 0,
-        Swapped::Refused(cause) => cause.number(),
+        Swapped::Refused(cause) => code::of_cause(cause),
     }
 }
 
-// Rows a and b exchanged; refusal 1 unless both are below 4.
+// Rows a and b exchanged; refusal 12 unless both are below 4.
 #[no_mangle]
 pub extern "C" fn migthumo_swap_rows_mut(m: &mut Matrix4, a: usize, b: usize) -> u32
     ensures { λ r. ⌜ Answers r (now (m .entry)) (now (m .exit)) (swapRows4 (now (m .entry)) (rowAt a) (rowAt b)) ⌝ }
@@ -27,7 +28,7 @@ pub extern "C" fn migthumo_swap_rows_mut(m: &mut Matrix4, a: usize, b: usize) ->
     said(m.swap_rows_mut(Row(a), Row(b)))
 }
 
-// Columns a and b exchanged; refusal 1 unless both are below 4.
+// Columns a and b exchanged; refusal 11 unless both are below 4.
 #[no_mangle]
 pub extern "C" fn migthumo_swap_columns_mut(m: &mut Matrix4, a: usize, b: usize) -> u32
     ensures { λ r. ⌜ Answers r (now (m .entry)) (now (m .exit)) (swapColumns4 (now (m .entry)) (columnAt a) (columnAt b)) ⌝ }
@@ -35,7 +36,7 @@ pub extern "C" fn migthumo_swap_columns_mut(m: &mut Matrix4, a: usize, b: usize)
     said(m.swap_columns_mut(Column(a), Column(b)))
 }
 
-// The entries at two places, column first, exchanged; refusal 1 unless all four numbers are below 4.
+// The entries at two places, column first, exchanged; refusal 11 or 12 unless all four numbers are below 4.
 #[no_mangle]
 pub extern "C" fn migthumo_swap_elements_mut(
     m: &mut Matrix4,

@@ -3,6 +3,7 @@ ghost use mathlib.Core.Path.{_≡_};
 ghost use Rattle.bulk.specs.Moves.{moveVectors, movePoints};
 ghost use Rattle.bulk.specs.Refusals.{movedOutcome};
 ghost use Rattle.migthumo.specs.Entries.{code, Answers};
+use crate::code;
 use bulk;
 use bulk::Moved;
 
@@ -12,7 +13,7 @@ fn said(answer: Moved) -> u32
 {
     match answer {
         Moved::Done => 0,
-        Moved::Refused(cause) => cause.number(),
+        Moved::Refused(cause) => code::of_cause(cause),
     }
 }
 

@@ -17,7 +17,7 @@ use vector::Vector2Answer;
 use vector::Vector3Answer;
 use vector::Vector4Answer;
 
-// Row r; refusal 1 unless r is below the order.
+// Row r; refusal 12, first, unless r is below the order.
 #[no_mangle]
 pub extern "C" fn migthumo_row(order: usize, r: usize, m: &[f64], out: &mut [f64]) -> u32
     ensures { λ answer. ⌜ Answers answer (now (out .entry)) (now (out .exit)) (row order (rowAt r) (now (m .entry)) (length (now (out .entry)))) ⌝ }
@@ -65,7 +65,7 @@ pub extern "C" fn migthumo_transpose(order: usize, m: &[f64], out: &mut [f64]) -
     }
 }
 
-// Rows a and b exchanged; refusal 1 unless both are below the order.
+// Rows a and b exchanged; refusal 12 unless both are below the order.
 #[no_mangle]
 pub extern "C" fn migthumo_swap_rows(
     order: usize,
@@ -87,7 +87,7 @@ pub extern "C" fn migthumo_swap_rows(
     }
 }
 
-// Columns a and b exchanged; refusal 1 unless both are below the order.
+// Columns a and b exchanged; refusal 11 unless both are below the order.
 #[no_mangle]
 pub extern "C" fn migthumo_swap_columns(
     order: usize,
@@ -109,7 +109,7 @@ pub extern "C" fn migthumo_swap_columns(
     }
 }
 
-// The entries at two places, column first, exchanged; refusal 1 unless all four numbers are below the order.
+// The entries at two places, column first, exchanged; refusal 11 or 12 unless all four numbers are below the order.
 #[no_mangle]
 pub extern "C" fn migthumo_swap_elements(
     order: usize,

@@ -10,6 +10,7 @@ ghost use Rattle.matrix.specs.Records.{matrix2Outcome, matrix3Outcome, matrix4O
 ghost use Rattle.engine.specs.Engine.{numberOutcome, undoableOutcome};
 ghost use Rattle.migthumo.specs.Entries.{Answers};
 ghost use Rattle.migthumo.specs.Flat.{numbers2, numbers3, numbers4, alone, flag};
+use crate::code;
 use engine::NumberAnswer;
 use engine::UndoableAnswer;
 use matrix::Matrix2Answer;
@@ -34,7 +35,7 @@ pub(crate) fn whole(answer: NumberAnswer, out: &mut [i64]) -> u32
     ensures { λ r. ⌜ Answers r (now (out .entry)) (now (out .exit)) (over alone (numberOutcome answer)) ⌝ }
 {
     match answer {
-        NumberAnswer::Refused(cause) => cause.number(),
+        NumberAnswer::Refused(cause) => code::of_cause(cause),
         NumberAnswer::Given(n) => {
             out[0] = n;
             0
@@ -55,7 +56,7 @@ pub(crate) fn verdict(answer: UndoableAnswer, out: &mut [u8]) -> u32
     ensures { λ r. ⌜ Answers r (now (out .entry)) (now (out .exit)) (over flag (undoableOutcome answer)) ⌝ }
 {
     match answer {
-        UndoableAnswer::Refused(cause) => cause.number(),
+        UndoableAnswer::Refused(cause) => code::of_cause(cause),
         UndoableAnswer::Given(yes) => {
             out[0] = bit(yes);
             0
@@ -69,7 +70,7 @@ pub(crate) fn vector2(answer: Vector2Answer, out: &mut [f64]) -> u32
     ensures { λ r. ⌜ Answers r (now (out .entry)) (now (out .exit)) (over entries2 (vector2Outcome answer)) ⌝ }
 {
     match answer {
-        Vector2Answer::Refused(cause) => cause.number(),
+        Vector2Answer::Refused(cause) => code::of_cause(cause),
         Vector2Answer::Given(v) => {
             out[1] = v.y;
             out[0] = v.x;
@@ -84,7 +85,7 @@ pub(crate) fn vector3(answer: Vector3Answer, out: &mut [f64]) -> u32
     ensures { λ r. ⌜ Answers r (now (out .entry)) (now (out .exit)) (over entries3 (vector3Outcome answer)) ⌝ }
 {
     match answer {
-        Vector3Answer::Refused(cause) => cause.number(),
+        Vector3Answer::Refused(cause) => code::of_cause(cause),
         Vector3Answer::Given(v) => {
             out[0] = v.x;
             out[1] = v.y;
@@ -100,7 +101,7 @@ pub(crate) fn vector4(answer: Vector4Answer, out: &mut [f64]) -> u32
     ensures { λ r. ⌜ Answers r (now (out .entry)) (now (out .exit)) (over entries4 (vector4Outcome answer)) ⌝ }
 {
     match answer {
-        Vector4Answer::Refused(cause) => cause.number(),
+        Vector4Answer::Refused(cause) => code::of_cause(cause),
         Vector4Answer::Given(v) => {
             out[0] = v.x;
             out[1] = v.y;
@@ -117,7 +118,7 @@ pub(crate) fn matrix2(answer: Matrix2Answer, out: &mut [f64]) -> u32
     ensures { λ r. ⌜ Answers r (now (out .entry)) (now (out .exit)) (over numbers2 (matrix2Outcome answer)) ⌝ }
 {
     match answer {
-        Matrix2Answer::Refused(cause) => cause.number(),
+        Matrix2Answer::Refused(cause) => code::of_cause(cause),
         Matrix2Answer::Given(m) => {
             out[1] = m.x.y;
             out[2] = m.y.x;
@@ -134,7 +135,7 @@ pub(crate) fn matrix3(answer: Matrix3Answer, out: &mut [f64]) -> u32
     ensures { λ r. ⌜ Answers r (now (out .entry)) (now (out .exit)) (over numbers3 (matrix3Outcome answer)) ⌝ }
 {
     match answer {
-        Matrix3Answer::Refused(cause) => cause.number(),
+        Matrix3Answer::Refused(cause) => code::of_cause(cause),
         Matrix3Answer::Given(m) => {
             out[0] = m.x.x;
             out[1] = m.x.y;
@@ -156,7 +157,7 @@ pub(crate) fn matrix4(answer: Matrix4Answer, out: &mut [f64]) -> u32
     ensures { λ r. ⌜ Answers r (now (out .entry)) (now (out .exit)) (over numbers4 (matrix4Outcome answer)) ⌝ }
 {
     match answer {
-        Matrix4Answer::Refused(cause) => cause.number(),
+        Matrix4Answer::Refused(cause) => code::of_cause(cause),
         Matrix4Answer::Given(m) => {
             out[0] = m.x.x;
             out[1] = m.x.y;

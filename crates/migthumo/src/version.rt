@@ -7,5 +7,5 @@ ghost use Rattle.migthumo.specs.Boundary.{version as Boundary·version};
 pub extern "C" fn migthumo_version() -> u32
     ensures { λ r. ⌜ r ≡ Boundary·version ⌝ }
 {
-    1
+    2
 }

@@ -1,1 +1,2 @@
 pub mod Proved
+pub mod Ways

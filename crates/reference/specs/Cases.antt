@@ -6,7 +6,7 @@ use mathlib.Core.Bool.{Bool, true, false, _&&_}
 use mathlib.Core.List.{List, [], _∷_}
 use lib.Dec.{T}
 use lib.Ieee.{Float, binary64, eq, ofInt}
-use Rattle.vector.specs.Refusals.{Outcome, given, refused, over}
+use Rattle.vector.specs.Refusals.{Outcome, given, refused, Meant, over}
 use Rattle.vector.specs.Vectors.{ofEntries3}
 use Rattle.matrix.specs.Records.{array2, array3, array4, ofArray2, ofArray3, ofArray4}
 use Rattle.matrix.specs.Places as places
@@ -29,10 +29,10 @@ pub data Operation : Type 0 where
   swapRows2 swapColumns2 : Columns → ℕ → ℕ → Operation
   signedSum2 : Columns → Operation
 
--- what is expected: these columns, the sign of a zero included; these columns numerically; or the refusal of this number
+-- what is expected: these columns, the sign of a zero included; these columns numerically; or this refusal
 pub data Expected : Type 0 where
   exactly numerically : Columns → Expected
-  refusal : ℕ → Expected
+  refusal : Meant → Expected
 
 -- a case: its number there, R1 to R12, for the reader; the operation with its inputs; the expected outcome
 pub record Case : Type 0 where
@@ -80,8 +80,8 @@ equalColumns (u ∷ a) (v ∷ b) = equalColumn u v && equalColumns a b
 abbrev pub Is : Outcome Columns → Expected → Type 0
 Is outcome (exactly a) = outcome ≡ given a
 Is (given m) (numerically a) = T (equalColumns m a)
-Is (refused n) (numerically a) = ⊥
-Is outcome (refusal n) = outcome ≡ refused n
+Is (refused why) (numerically a) = ⊥
+Is outcome (refusal why) = outcome ≡ refused why
 
 -- what a case claims
 abbrev pub claim : Case → Type 0

@@ -1,10 +1,12 @@
--- Document 01, 'Reference cases, both sides of each edge': R1 to R12 as data, columns in brackets.
+-- Document 01, 'Reference cases, both sides of each edge': R1 to R12 as data, columns in brackets; R11's refusal as document 02, No. 1, has it.
 -- Exact, the sign of zero included, but for the inverses of R6 and R10, which are numerical; a NaN in R5. Assumes nothing.
 use Prim.Native.Nat.{ℕ}
 use mathlib.Core.Bool.{true, false}
 use mathlib.Core.List.{List, [], _∷_}
 use lib.IntN.{pos, negsuc, negℤ}
 use lib.Ieee.{Float, nan, fin, binary64, ofInt}
+use Rattle.vector.specs.declared.refusal.Place.the-variants.{First}
+use Rattle.vector.specs.Refusals.{bare, placed}
 use Rattle.reference.specs.Cases.{Columns, Operation, determinant2, determinant3, determinant4, invert2of, invert3of, invert4of, times2, axisAngle3, swapRows2, swapColumns2, signedSum2, Expected, exactly, numerically, refusal, Case, single}
 
 -- ---- numbers
@@ -81,9 +83,9 @@ table =
     case 1 (determinant2 m1) (exactly (single (whole 1)))
     ∷ case 1 (invert2of m1) (exactly (of2 (of2 (whole 2) (negative 5)) (of2 (negative 1) (whole 3))))
     ∷ case 2 (invert2of (of2 (of2 (whole 2) (whole 0)) (of2 (whole 0) (whole 4)))) (exactly (of2 (of2 half minusZero) (of2 minusZero quarter)))
-    ∷ case 3 (invert2of (of2 (of2 (whole 1) (whole 2)) (of2 (whole 2) (whole 4)))) (refusal 2)
+    ∷ case 3 (invert2of (of2 (of2 (whole 1) (whole 2)) (of2 (whole 2) (whole 4)))) (refusal (bare 2))
     ∷ case 4 (determinant2 m4) (exactly (single minusZero))
-    ∷ case 4 (invert2of m4) (refusal 2)
+    ∷ case 4 (invert2of m4) (refusal (bare 2))
     ∷ case 5 (determinant2 m5) (exactly (single nan))
     ∷ case 5 (invert2of m5) (exactly (of2 (of2 nan nan) (of2 nan nan)))
     ∷ case 6 (determinant3 m6) (exactly (single (whole 1)))
@@ -94,8 +96,8 @@ table =
     ∷ case 10 (determinant4 m10) (exactly (single (whole 8)))
     ∷ case 10 (invert4of m10) (numerically (of4 (of4 half (whole 0) (whole 0) (whole 0)) (of4 (whole 0) half (whole 0) (whole 0)) (of4 (whole 0) (whole 0) half (whole 0)) (of4 (negative 2) (negative 3) (negative 4) (whole 1))))
     ∷ case 11 (swapRows2 m1 1 1) (exactly m1)
-    ∷ case 11 (swapColumns2 m1 5 5) (refusal 1)
+    ∷ case 11 (swapColumns2 m1 5 5) (refusal (placed 11 First))
     ∷ case 12 (signedSum2 (of2 (of2 (whole 1024) minusZero) (of2 (whole 0) (whole 1)))) (exactly (single (whole 1024)))
-    ∷ case 12 (signedSum2 (of2 (of2 (whole 1025) (whole 0)) (of2 (whole 0) (whole 1)))) (refusal 6)
-    ∷ case 12 (signedSum2 (of2 (of2 half (whole 0)) (of2 (whole 0) (whole 1)))) (refusal 6)
+    ∷ case 12 (signedSum2 (of2 (of2 (whole 1025) (whole 0)) (of2 (whole 0) (whole 1)))) (refusal (bare 6))
+    ∷ case 12 (signedSum2 (of2 (of2 half (whole 0)) (of2 (whole 0) (whole 1)))) (refusal (bare 6))
     ∷ []

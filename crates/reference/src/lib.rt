@@ -1,1 +1,1 @@
-// Document 01, 'Reference cases, both sides of each edge': a table of data with one claim, in specs/, proved in proofs/. No code.
+// Document 01, 'Reference cases, both sides of each edge', and the places of document 02, No. 1, 'Say column or row': two tables of data, each with its claim, in specs/, proved in proofs/. No code.

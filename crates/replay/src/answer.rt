@@ -1,4 +1,4 @@
-// What an operation answers: the bit patterns of its entries, or the number of a refusal.
+// What an operation answers: the bit patterns of its entries, or a refusal as the list writes it.
 use bits::pattern;
 use engine::NumberAnswer;
 use engine::UndoableAnswer;
@@ -8,6 +8,8 @@ use matrix::Matrix3;
 use matrix::Matrix3Answer;
 use matrix::Matrix4;
 use matrix::Matrix4Answer;
+use vector::Place;
+use vector::Placed;
 use vector::Refusal;
 use vector::Vector2;
 use vector::Vector2Answer;
@@ -16,7 +18,7 @@ use vector::Vector3Answer;
 use vector::Vector4;
 use vector::Vector4Answer;
 
-// What stands for a refusal's number where there is no such operation of this order.
+// What stands for a refusal where there is no such operation of this order.
 pub const UNKNOWN: u64 = 255;
 
 // The bits of a whole number: its two's complement.
@@ -28,7 +30,20 @@ fn complement(z: i64) -> u64 {
     }
 }
 
-// A refusal's number, or 0; how many entries there are; their patterns, and 0 behind the last.
+// A cause as the list writes it: its number, and 256 more where the second place is at fault.
+pub(crate) fn written(cause: Refusal) -> u64 {
+    let number = cause.number() as u64;
+    let placed = cause.place();
+    match placed {
+        Placed::Nowhere => number,
+        Placed::At(place) => match place {
+            Place::First => number,
+            Place::Second => number + 256,
+        },
+    }
+}
+
+// A refusal as the list writes it, or 0; how many entries there are; their patterns, and 0 behind the last.
 pub struct Answer {
     pub refusal: u64,
     pub count: usize,
@@ -45,7 +60,7 @@ impl Answer {
         }
     }
 
-    // This number of a refusal.
+    // This refusal, as the list writes it.
     pub(crate) fn refused(refusal: u64) -> Answer {
         Answer {
             refusal,
@@ -61,7 +76,7 @@ impl Answer {
 
     // A cause of refusal.
     fn cause(cause: Refusal) -> Answer {
-        Answer::refused(cause.number() as u64)
+        Answer::refused(written(cause))
     }
 
     // One number.
@@ -219,7 +234,7 @@ impl Answer {
         }
     }
 
-    // Whether both refuse with one number, or both give the same patterns.
+    // Whether both refuse alike, number and place, or both give the same patterns.
     pub(crate) fn equals(self, other: Answer) -> bool {
         if self.refusal != other.refusal {
             return false;

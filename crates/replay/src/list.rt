@@ -214,7 +214,7 @@ fn order(word: &[u8]) -> usize {
     }
 }
 
-// What the line says from `from` on: '=' and the entries, or '!' and a refusal's number.
+// What the line says from `from` on: '=' and the entries, or '!' and a refusal.
 pub(crate) fn expected(line: &[u8], from: usize) -> Ending
     requires { ⌜ from ≤ length (now line) ⌝ }
 {
@@ -275,7 +275,7 @@ fn given(run: Run) -> Ending {
     }
 }
 
-// The only word as the number of a refusal.
+// The only word as a refusal.
 fn refused(run: Run) -> Ending {
     if run.count != 1 {
         return unreadable();

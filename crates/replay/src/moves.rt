@@ -2,6 +2,7 @@
 // The whole room of the output is compared, so that what a move leaves untouched is compared too.
 ghost use Prim.Native.Nat.{_≤_};
 ghost use lib.ListN.{length};
+use crate::answer::written;
 use crate::list::Beginning;
 use crate::list::next_word;
 use crate::list::sign_at;
@@ -31,7 +32,7 @@ pub struct Filled {
     pub next: usize,
 }
 
-// What a bulk line says is answered: the number of a refusal, or 0; or that it can't be read.
+// What a bulk line says is answered: a refusal, as the list writes it, or 0; or that it can't be read.
 pub struct Stated {
     pub read: bool,
     pub refusal: u64,
@@ -131,7 +132,7 @@ fn numbers(line: &[u8], from: usize, count: usize, room: &mut [f64; FLAT]) -> Fi
     Filled { read: true, next }
 }
 
-// The move of what is handed over: the number of a refusal, or 0.
+// The move of what is handed over: a refusal as the list writes it, or 0.
 fn moved(
     operation: usize,
     handed: Handed,
@@ -164,15 +165,15 @@ fn moved_parts(
     }
 }
 
-// The number of a refusal, or 0.
+// A refusal as the list writes it, or 0.
 fn number(answer: Moved) -> u64 {
     match answer {
         Moved::Done => 0,
-        Moved::Refused(cause) => cause.number() as u64,
+        Moved::Refused(cause) => written(cause),
     }
 }
 
-// What the line says from `from` on: '=' and the numbers of the output, or '!' and a refusal's number.
+// What the line says from `from` on: '=' and the numbers of the output, or '!' and a refusal.
 fn stated_output(line: &[u8], from: usize, count: usize, expected: &mut [f64; FLAT]) -> Stated
     requires { ⌜ (from ≤ length (now line)) × (count ≤ 260) ⌝ }
 {

@@ -155,7 +155,7 @@ module _ (list : List ℤ) (n : ℕ) (e : Floats) (small : SmallList (n * n) lis
   -- the engine's cofactor
   cofactor-is : (z : ℤ) (o : Outcome ℤ) (c : Column) (r : Row) → c .0 < n → r .0 < n → o ≡ cofactor 1024 n e c r → z ≡ numberIn o → z ≡ cofactorOf n (columns n list) (c .0) (r .0)
   cofactor-is z o c r h l answered given-is =
-      given-is ∙ rw (answered, within n (c .0) h, within n (r .0) l, all-taken)
+      given-is ∙ rw (answered, within _ n (c .0) h, within _ n (r .0) l, all-taken)
       (cofactor-ext n (omega (arith, h)) (numbers e) (columns n list) (numbers-held 1024 n e (columns n list) (lit< tt) holds) (c .0) (r .0) h l)
 
 -- ---- the answer's number

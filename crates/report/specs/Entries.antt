@@ -41,4 +41,4 @@ pub record AsFloats (n : ℕ) (list : List ℤ) (e : Floats) : Type 0 where
 -- the number that was given, or 0
 abbrev pub numberIn : Outcome ℤ → ℤ
 numberIn (given z) = z
-numberIn (refused n) = pos 0
+numberIn (refused why) = pos 0

@@ -8,7 +8,7 @@ use lib.Count.{trailingZeros}
 use lib.IntN.{pos, negsuc, natAbs}
 use lib.Ieee.{Float, binary64, ofBits, ofFields, ofInt, toSigned, add, sub, mul, div, neg, eq, round, sum as rounded-sum, size, span, climb, units, odd}
 use Rattle.vector.specs.Arithmetic.{float0, float1}
-use Rattle.vector.specs.Refusals.{given}
+use Rattle.vector.specs.Refusals.{given, bare}
 use Rattle.vector.specs.Vectors.{vector2}
 use Rattle.matrix.specs.Records.{new4, fromDiagonal2, zero2, identity2}
 use Rattle.matrix.specs.Arithmetic.{mul2, mul4}
@@ -63,7 +63,7 @@ double-sum = refl
 -- an invert that refuses everything is stopped by line 2, at the identity
 refuses-all : ¬ RefusedExactly (withInvert port2 invert2RefusesAll) 1024
 refuses-all demand =
-    let none : pos 1 ≡ pos 0 = sym identity-sum ∙ demand identity2 identity-whole 2 .0 refl .1 in
+    let none : pos 1 ≡ pos 0 = sym identity-sum ∙ demand identity2 identity-whole (bare 2) .0 refl .1 in
     let no : _≡_ {A = ℕ} 1 0 = ap natAbs none in omega arith
 
 -- [2,0][0,1] times the identity is not the identity

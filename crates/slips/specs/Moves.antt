@@ -42,7 +42,7 @@ lastSkipped order m points output =
 -- slip: a refusal that has written already: the vectors as they are, as far as the output has room
 abbrev pub leavesWritten : List Float → List Float → Outcome (List Float) → List Float
 leavesWritten vectors output (given moved) = moved
-leavesWritten vectors output (refused n) = take (length output) vectors ++ drop (length vectors) output
+leavesWritten vectors output (refused why) = take (length output) vectors ++ drop (length vectors) output
 
 -- slip: 4 is tested before 3
 abbrev pub outputFirst : ℕ → List Float → List Float → List Float → Outcome (List Float)

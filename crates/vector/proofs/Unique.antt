@@ -61,5 +61,8 @@ vector4-dot = value
 pub vector4-truncate-n : Decided Vector4.truncate_n.Reads.Learnt
 vector4-truncate-n = meaning vector3-one
 
+pub refusal-place : Decided Refusal.place.Reads.Learnt
+refusal-place = value
+
 pub refusal-number : Decided Refusal.number.Reads.Learnt
 refusal-number = value

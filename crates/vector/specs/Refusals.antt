@@ -1,10 +1,13 @@
--- Document 01, 'The numbers a refusal carries': an outcome is the values given, or the number of the refusal.
+-- Document 01, 'The numbers a refusal carries', and document 02, No. 1, 'Say column or row': an outcome is the values given, or what the refusal means.
 -- What each kind of answer of this crate means as an outcome. Assumes nothing.
 use Prim.Native.Nat.{ℕ}
 use mathlib.Core.Bool.{cond}
 use lib.Dec.{ltb}
+use Rattle.vector.specs.declared.refusal.Place.{Place}
+use Rattle.vector.specs.declared.refusal.Placed.{Placed}
+use Rattle.vector.specs.declared.refusal.Placed.the-variants.{At, Nowhere}
 use Rattle.vector.specs.declared.refusal.Refusal.{Refusal}
-use Rattle.vector.specs.declared.refusal.Refusal.the-variants.{OutOfRange, Singular, InputLength, OutputLength, Order, NotWhole}
+use Rattle.vector.specs.declared.refusal.Refusal.the-variants.{Column, Row, Singular, InputLength, OutputLength, Order, NotWhole}
 use Rattle.vector.specs.declared.Vector2.{Vector2}
 use Rattle.vector.specs.declared.Vector3.{Vector3}
 use Rattle.vector.specs.declared.Vector4.{Vector4}
@@ -15,33 +18,49 @@ use Rattle.vector.specs.declared.Vector2Answer.the-variants as answer2
 use Rattle.vector.specs.declared.Vector3Answer.the-variants as answer3
 use Rattle.vector.specs.declared.Vector4Answer.the-variants as answer4
 
--- the values given, or the number of the refusal and no values
+-- what a refusal means: its number and no more, or its number with the place at fault, the first or the second
+pub data Meant : Type 0 where
+  bare : ℕ → Meant
+  placed : ℕ → Place → Meant
+
+-- the values given, or what the refusal means and no values
 pub data Outcome (A : Type 0) : Type 0 where
   given : A → Outcome A
-  refused : ℕ → Outcome A
+  refused : Meant → Outcome A
 
--- the number of each cause
-abbrev pub number : Refusal → ℕ
-number OutOfRange = 1
-number Singular = 2
-number InputLength = 3
-number OutputLength = 4
-number Order = 5
-number NotWhole = 6
+-- what each cause means: 11 a column out of range, 12 a row out of range, each with first or second; 1 is retired
+abbrev pub means : Refusal → Meant
+means (Column place) = placed 11 place
+means (Row place) = placed 12 place
+means Singular = bare 2
+means InputLength = bare 3
+means OutputLength = bare 4
+means Order = bare 5
+means NotWhole = bare 6
+
+-- the number of a refusal
+abbrev pub numberOf : Meant → ℕ
+numberOf (bare n) = n
+numberOf (placed n place) = n
+
+-- the place of a refusal, or none
+abbrev pub placeOf : Meant → Placed
+placeOf (bare n) = Nowhere
+placeOf (placed n place) = At place
 
 -- refused for this cause
 abbrev pub refusedFor : {A : Type 0} → Refusal → Outcome A
-refusedFor cause = refused (number cause)
+refusedFor cause = refused (means cause)
 
 -- what follows a check: its refusal, or the outcome where it found nothing
 abbrev pub after : {A : Type 0} → Outcome Unit → Outcome A → Outcome A
 after (given _) outcome = outcome
-after (refused n) outcome = refused n
+after (refused why) outcome = refused why
 
 -- what was given, made over by f; a refusal stays as it is
 abbrev pub over : {A B : Type 0} → (A → B) → Outcome A → Outcome B
 over f (given a) = given (f a)
-over f (refused n) = refused n
+over f (refused why) = refused why
 
 -- the answer of an entry that writes to what is lent: done, or the refusal
 abbrev pub done : {A : Type 0} → Outcome A → Outcome Unit
@@ -50,11 +69,11 @@ done = over (λ _. tt)
 -- what is lent at the end: the values given, or where refused what stood there before
 abbrev pub leaves : {A : Type 0} → A → Outcome A → A
 leaves before (given a) = a
-leaves before (refused n) = before
+leaves before (refused why) = before
 
--- refusal 1 unless the number is below the order or the length
-unfoldable pub belowLimit : ℕ → ℕ → Outcome Unit
-belowLimit limit n = cond (ltb n limit) (given tt) (refusedFor OutOfRange)
+-- refused for this cause unless the number is below the limit, which is the order or the length
+unfoldable pub belowLimit : (cause : Refusal) (limit n : ℕ) → Outcome Unit
+belowLimit cause limit n = cond (ltb n limit) (given tt) (refusedFor cause)
 
 -- what an answer of two numbers means (a row of order 2)
 abbrev pub vector2Outcome : Vector2Answer → Outcome Vector2

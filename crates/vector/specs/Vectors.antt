@@ -6,6 +6,8 @@ use lib.ListN.{getD, take, drop}
 use lib.Ieee.{Float, nan}
 use Rattle.vector.specs.Arithmetic.{_⊕_, _⊖_, _⊗_, _⊘_}
 use Rattle.vector.specs.Refusals.{Outcome, given, after, belowLimit}
+use Rattle.vector.specs.declared.refusal.Place.the-variants.{First}
+use Rattle.vector.specs.declared.refusal.Refusal.the-variants.{Row}
 use Rattle.vector.specs.declared.Vector2.{Vector2}
 use Rattle.vector.specs.declared.Vector3.{Vector3}
 use Rattle.vector.specs.declared.Vector4.{Vector4}
@@ -128,6 +130,6 @@ cross3 a b =
 abbrev pub without : {A : Type 0} → ℕ → List A → List A
 without n l = take n l ++ drop (suc n) l
 
--- four entries without element n, the three left in order; refusal 1 unless n is below four
+-- four entries without element n, the three left in order; refusal 12, first, unless n is below four (document 02, No. 1)
 abbrev pub truncateN4 : Vector4 → ℕ → Outcome Vector3
-truncateN4 v n = after (belowLimit 4 n) (given (ofEntries3 (without n (entries4 v))))
+truncateN4 v n = after (belowLimit (Row First) 4 n) (given (ofEntries3 (without n (entries4 v))))

@@ -8,6 +8,8 @@ ghost use Rattle.vector.specs.Vectors.{add2, add3, add4, sub2, sub3, sub
 ghost use Rattle.vector.specs.Vectors.{scalarMul2, scalarMul3, scalarMul4, divScalar3};
 ghost use Rattle.vector.specs.Vectors.{dot2, dot3, dot4, cross3, truncateN4};
 ghost use Rattle.vector.specs.Refusals.{vector3Outcome};
+pub use refusal::Place;
+pub use refusal::Placed;
 pub use refusal::Refusal;
 
 // A vector of two numbers.
@@ -195,7 +197,7 @@ impl Vector4 {
         self.x * other.x + (self.y * other.y + (self.z * other.z + self.w * other.w))
     }
 
-    // The other three entries in their order, without entry n, or refusal 1.
+    // The other three entries in their order, without entry n, or refusal 12, first.
     pub fn truncate_n(self, n: usize) -> Vector3Answer
         ensures { λ r. ⌜ vector3Outcome r ≡ truncateN4 self n ⌝ }
     {
@@ -204,7 +206,7 @@ impl Vector4 {
             1 => Vector3Answer::Given(Vector3::new(self.x, self.z, self.w)),
             2 => Vector3Answer::Given(Vector3::new(self.x, self.y, self.w)),
             3 => Vector3Answer::Given(Vector3::new(self.x, self.y, self.z)),
-            _ => Vector3Answer::Refused(Refusal::OutOfRange),
+            _ => Vector3Answer::Refused(Refusal::Row(Place::First)),
         }
     }
 }

@@ -17,10 +17,10 @@ use Rattle.engine.proofs.cofactors.cofactor_answer.Statement.{statement
 use Rattle.engine.proofs.cofactors.cofactor_answer.Tie as tie
 
 returns : tie.Need-returns
-returns c = rw (outside _ _ (c .if1 .taken))
+returns c = rw (outside _ _ _ (c .if1 .taken))
 
 returns-2 : tie.Need-returns-2
-returns-2 c = rw (within _ _ (c .before .before .if1 .left), outside _ _ (c .if2 .taken))
+returns-2 c = rw (within _ _ _ (c .before .before .if1 .left), outside _ _ _ (c .if2 .taken))
 
 whole-entries-requires : tie.Need-whole-entries-requires
 whole-entries-requires c κs = search needs
@@ -48,7 +48,7 @@ returns-3 c =
     let tested = then .before .before in
     let start = tested .before .before .before .before in
     let a = start .args in
-    given-placed _ _ _ (within _ _ (tested .before .before .if1 .left)) (within _ _ (tested .if2 .left)) (taken-yes 1024 4 _ (passed then))
+    given-placed _ _ _ (within _ _ _ (tested .before .before .if1 .left)) (within _ _ _ (tested .if2 .left)) (taken-yes 1024 4 _ (passed then))
     (back _ (c .signed-minor .ok)
     ∙ c .signed-minor .ensures
     ∙ ap (λ (l : List (List ℤ)). cofactorOf (a .n) (wholes l) (a .c .0) (a .r .0)) (c .before .numbers .ensures)
@@ -57,7 +57,7 @@ returns-3 c =
 returns-4 : tie.Need-returns-4
 returns-4 c =
     let tested = c .before .before in
-    refused-placed _ _ _ _ 6 (within _ _ (tested .before .before .if1 .left)) (within _ _ (tested .if2 .left)) (taken-no 1024 4 _ (sym (c .before .whole-entries .ensures) ∙ c .if3 .left))
+    refused-placed _ _ _ _ _ (within _ _ _ (tested .before .before .if1 .left)) (within _ _ _ (tested .if2 .left)) (taken-no 1024 4 _ (sym (c .before .whole-entries .ensures) ∙ c .if3 .left))
 
 pub cofactor-answer-spec : {M : Type 1} → statement M
 cofactor-answer-spec =

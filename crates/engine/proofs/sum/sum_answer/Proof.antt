@@ -41,7 +41,7 @@ returns c =
     ∙ ap (signed-sum n) (array-numbers (array4 (then .before .before .args .m))))
 
 returns-2 : tie.Need-returns-2
-returns-2 c = refused-after _ _ 6 (taken-no 1024 4 _ (sym (c .before .whole-entries .ensures) ∙ c .if1 .left))
+returns-2 c = refused-after _ _ _ (taken-no 1024 4 _ (sym (c .before .whole-entries .ensures) ∙ c .if1 .left))
 
 pub sum-answer-spec : {M : Type 1} → statement M
 sum-answer-spec =

@@ -10,14 +10,14 @@ check-column-requires c κs = search needs
 check-row-requires : tie.Need-check-row-requires
 check-row-requires c κs = search needs
 
-then-requires : tie.Need-then-requires
-then-requires c κs = search needs
-
 check-column-requires-2 : tie.Need-check-column-requires-2
 check-column-requires-2 c κs = search needs
 
 check-row-requires-2 : tie.Need-check-row-requires-2
 check-row-requires-2 c κs = search needs
+
+then-requires : tie.Need-then-requires
+then-requires c κs = search needs
 
 then-requires-2 : tie.Need-then-requires-2
 then-requires-2 c κs = search needs
@@ -28,8 +28,10 @@ then-requires-3 c κs = search needs
 returns : tie.Need-returns
 unfolding elementsBelow
 returns c =
+    let second = c .before .before in
+    let row = second .before .before .before in
     rw
-    (c .then3 .ensures, c .before .then2 .ensures, c .before .before .before .before .then .ensures, c .before .before .before .check-column2 .ensures, c .before .before .check-row2 .ensures, c .before .before .before .before .before .before .check-column .ensures, c .before .before .before .before .before .check-row .ensures)
+    (c .then3 .ensures, c .before .then2 .ensures, second .then .ensures, second .before .check-row2 .ensures, second .before .before .check-column2 .ensures, row .check-row .ensures, row .before .check-column .ensures)
 
 pub check-elements-spec : {M : Type 1} → statement M
 check-elements-spec =
@@ -37,9 +39,9 @@ check-elements-spec =
     (tie.spec
     check-column-requires
     check-row-requires
-    then-requires
     check-column-requires-2
     check-row-requires-2
+    then-requires
     then-requires-2
     then-requires-3
     returns)

@@ -12,8 +12,8 @@ use Rattle.migthumo.proofs.store.whole.Tie as tie
 enum-known-answer : tie.Need-enum-known-answer
 enum-known-answer c = search needs
 
-number-requires : tie.Need-number-requires
-number-requires c κs = search needs
+of-cause-requires : tie.Need-of-cause-requires
+of-cause-requires c κs = search needs
 
 enum-known-answer-2 : tie.Need-enum-known-answer-2
 enum-known-answer-2 c = search needs
@@ -38,7 +38,7 @@ whole-spec =
     tie.close
     (tie.spec
     enum-known-answer
-    number-requires
+    of-cause-requires
     enum-known-answer-2
     slice-set-from-n
     returns

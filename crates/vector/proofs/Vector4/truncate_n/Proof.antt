@@ -20,22 +20,22 @@ new-requires-4 : tie.Need-new-requires-4
 new-requires-4 c κs = search needs
 
 returns : tie.Need-returns
-returns c = rw (c .before .match .keys1) (cc (within 4 0 (lit< tt)))
+returns c = rw (c .before .match .keys1, within _ 4 0 (lit< tt), c .new .ensures)
 
 returns-2 : tie.Need-returns-2
-returns-2 c = rw (c .before .match .keys2) (cc (within 4 1 (lit< tt)))
+returns-2 c = rw (c .before .match .keys2, within _ 4 1 (lit< tt), c .new2 .ensures)
 
 returns-3 : tie.Need-returns-3
-returns-3 c = rw (c .before .match .keys3) (cc (within 4 2 (lit< tt)))
+returns-3 c = rw (c .before .match .keys3, within _ 4 2 (lit< tt), c .new3 .ensures)
 
 returns-4 : tie.Need-returns-4
-returns-4 c = rw (c .before .match .keys4) (cc (within 4 3 (lit< tt)))
+returns-4 c = rw (c .before .match .keys4, within _ 4 3 (lit< tt), c .new4 .ensures)
 
 returns-5 : tie.Need-returns-5
 returns-5 c =
     let r = c .match .rest in
     let past : 4 ≤ c .before .args .n = omega (arith, r .0 .0 .0 .1, r .0 .0 .1, r .0 .1, r .1) in
-    rw (outside 4 _ past)
+    rw (outside _ 4 _ past)
 
 pub truncate-n-spec : {M : Type 1} → statement M
 truncate-n-spec =

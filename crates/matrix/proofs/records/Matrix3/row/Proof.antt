@@ -20,7 +20,7 @@ into-array-requires c κs = search needs
 row-of3-requires : tie.Need-row-of3-requires
 row-of3-requires c κs =
     let told = c .before in
-    passes 3 _ (passed _ _ (told .before .before .check-row .ensures) (told .enum-told .given .1))
+    passes _ 3 _ (passed _ _ (told .before .before .check-row .ensures) (told .enum-told .given .1))
 
 returns : tie.Need-returns
 returns c =

@@ -20,7 +20,7 @@ into-array-requires c κs = search needs
 row-of4-requires : tie.Need-row-of4-requires
 row-of4-requires c κs =
     let told = c .before in
-    passes 4 _ (passed _ _ (told .before .before .check-row .ensures) (told .enum-told .given .1))
+    passes _ 4 _ (passed _ _ (told .before .before .check-row .ensures) (told .enum-told .given .1))
 
 returns : tie.Need-returns
 returns c =
