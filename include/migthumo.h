@@ -8,9 +8,10 @@
  * Entries are plain numbers, and the library knows no units: who holds scales as whole sixty-fourths holds offsets so
  * too, the last row stays 0, 0, 1, and what comes out is in sixty-fourths.
  *
- * Every function but migthumo_version answers 0, or the number of a refusal (enum migthumo_answer). The causes are
- * tested in the order 5, 3, 4, 1, 6, 2, and the first that applies is answered. The output is written in full where 0
- * is answered, and is unchanged where any other number is.
+ * Every function but migthumo_version answers 0, or a refusal (enum migthumo_answer). The causes are tested in the
+ * order 5, 3, 4, then each column and row number in the order in which they are handed in (11 and 12 for the first, 267
+ * and 268 for the second), then 6, 2, and the first that applies is answered. The output is written in full where 0 is
+ * answered, and is unchanged where any other number is.
  *
  * What the caller sees to:
  *  - a length is true of its pointer: so many initialised elements do stand behind it, behind an output's too (any
@@ -24,8 +25,8 @@
  *  - floating point works as a program finds it at its start: rounding to nearest, subnormal numbers kept. A program
  *    linked with -ffast-math may change that.
  *
- * What is not asked: any double may be handed in, NaN and infinities too, and any order and place, since all are
- * tested; and any length that is true of its pointer: one that the order doesn't ask for is refused with 3 or 4,
+ * What is not asked: any double may be handed in, NaN and infinities too, and any order, column and row number,
+ * since all are tested; and any length that is true of its pointer: one that the order doesn't ask for is refused with 3 or 4,
  * without reading or writing an element. No function allocates, blocks, or keeps a pointer; each may be called from
  * many threads at once.
  *
@@ -53,15 +54,16 @@ extern "C" {
 /* The version of this header, and that of the library that is linked. It is raised whenever a signature or an answer
    changes. A program may compare the two once, at its start; where they differ, take header and archive from one
    checkout. */
-#define MIGTHUMO_VERSION 1
+#define MIGTHUMO_VERSION 2
 uint32_t migthumo_version(void);
 
-/* What a function answers: 0, or why it gave no value. */
+/* What a function answers: 0, or why it gave no value. A column number that is not below the order is refused with 11,
+   a row number with 12. Such an answer has a place, first or second: where it is the second column or row number that
+   is handed in, 256 is added: 267 is 11 + 256, and 268 is 12 + 256. No other answer has a place. 1 is never answered:
+   in version 1 it was MIGTHUMO_OUT_OF_RANGE, for any column or row number; now it is one of the last four. */
 enum migthumo_answer {
     /* The output is written. */
     MIGTHUMO_GIVEN = 0,
-    /* A row or column number is not below the order. */
-    MIGTHUMO_OUT_OF_RANGE = 1,
     /* The determinant compares equal to zero: more at migthumo_invert. */
     MIGTHUMO_SINGULAR = 2,
     /* An input slice has the wrong length. */
@@ -71,8 +73,26 @@ enum migthumo_answer {
     /* The order is not one that the function takes. */
     MIGTHUMO_ORDER = 5,
     /* An entry is not a whole number of magnitude at most 1024. */
-    MIGTHUMO_NOT_WHOLE = 6
+    MIGTHUMO_NOT_WHOLE = 6,
+    /* The first column number handed in is not below the order. */
+    MIGTHUMO_FIRST_COLUMN = 11,
+    /* The first row number handed in is not below the order. A lone row number is a first one. */
+    MIGTHUMO_FIRST_ROW = 12,
+    /* The second column number handed in is not below the order. */
+    MIGTHUMO_SECOND_COLUMN = 267,
+    /* The second row number handed in is not below the order. */
+    MIGTHUMO_SECOND_ROW = 268
 };
+
+/* An answer's number: 11 for either column, 12 for either row, so compare it with MIGTHUMO_FIRST_COLUMN or
+   MIGTHUMO_FIRST_ROW, never with those of the second. An answer that has no place is its own number. The argument may
+   be read more than once: hand in a variable, not a call. */
+#define MIGTHUMO_NUMBER(answer) ((answer) & 255)
+
+/* An answer's place, an int: 1 for the first column or row number, 2 for the second, and 0 where the answer has none.
+   The argument may be read more than once: hand in a variable, not a call. */
+#define MIGTHUMO_PLACE(answer) \
+    (((answer) == 11 || (answer) == 12) ? 1 : (((answer) == 267 || (answer) == 268) ? 2 : 0))
 
 /* Four numbers: a column of a matrix of order 4. */
 typedef struct migthumo_vector4 {
@@ -172,7 +192,7 @@ MIGTHUMO_MUST_USE uint32_t migthumo_undoable(size_t order, const double *m, size
 MIGTHUMO_MUST_USE uint32_t migthumo_transpose(size_t order, const double *m, size_t m_length,
                                               double *out, size_t out_length);
 
-/* Row r; 1 unless it is below the order. Output length n. Answers 0, 1, 3, 4 or 5. */
+/* Row r; 12 unless it is below the order. Output length n. Answers 0, 3, 4, 5 or 12. */
 MIGTHUMO_MUST_USE uint32_t migthumo_row(size_t order, size_t r, const double *m, size_t m_length,
                                         double *out, size_t out_length);
 
@@ -180,16 +200,19 @@ MIGTHUMO_MUST_USE uint32_t migthumo_row(size_t order, size_t r, const double *m,
 MIGTHUMO_MUST_USE uint32_t migthumo_diagonal(size_t order, const double *m, size_t m_length,
                                              double *out, size_t out_length);
 
-/* Rows a and b exchanged; 1 unless both are below the order. Output length n*n. Answers 0, 1, 3, 4 or 5. */
+/* Rows a and b exchanged; 12 unless a is below the order, then 268 unless b is. Output length n*n. Answers 0, 3, 4,
+   5, 12 or 268. */
 MIGTHUMO_MUST_USE uint32_t migthumo_swap_rows(size_t order, size_t a, size_t b, const double *m, size_t m_length,
                                               double *out, size_t out_length);
 
-/* Columns a and b exchanged; 1 unless both are below the order. Output length n*n. Answers 0, 1, 3, 4 or 5. */
+/* Columns a and b exchanged; 11 unless a is below the order, then 267 unless b is. Output length n*n. Answers 0, 3,
+   4, 5, 11 or 267. */
 MIGTHUMO_MUST_USE uint32_t migthumo_swap_columns(size_t order, size_t a, size_t b, const double *m, size_t m_length,
                                                  double *out, size_t out_length);
 
-/* The entries at two places, each a column and then a row, exchanged; 1 unless all four numbers are below the order.
-   Output length n*n. Answers 0, 1, 3, 4 or 5. */
+/* The entries at two places, each a column and then a row, exchanged. The four numbers are tested in the order in which
+   they are handed in, and the first that is not below the order is answered: 11 for first_column, 12 for first_row, 267
+   for second_column, 268 for second_row. Output length n*n. Answers 0, 3, 4, 5, 11, 12, 267 or 268. */
 MIGTHUMO_MUST_USE uint32_t migthumo_swap_elements(size_t order, size_t first_column, size_t first_row,
                                                   size_t second_column, size_t second_row,
                                                   const double *m, size_t m_length, double *out, size_t out_length);
@@ -215,15 +238,17 @@ MIGTHUMO_MUST_USE uint32_t migthumo_from_angle_z(size_t order, double s, double 
 MIGTHUMO_MUST_USE uint32_t migthumo_from_axis_angle(size_t order, double x, double y, double z, double s, double c,
                                                     double *out, size_t out_length);
 
-/* ---- order 4 swaps in place: the matrix is changed where 0 is answered, and as it was where 1 is */
+/* ---- order 4 swaps in place: the matrix is changed where 0 is answered, and as it was where any other number is */
 
-/* Rows a and b exchanged; 1 unless both are below 4. */
+/* Rows a and b exchanged; 12 unless a is below 4, then 268 unless b is. Answers 0, 12 or 268. */
 MIGTHUMO_MUST_USE uint32_t migthumo_swap_rows_mut(migthumo_matrix4 *m, size_t a, size_t b);
 
-/* Columns a and b exchanged; 1 unless both are below 4. */
+/* Columns a and b exchanged; 11 unless a is below 4, then 267 unless b is. Answers 0, 11 or 267. */
 MIGTHUMO_MUST_USE uint32_t migthumo_swap_columns_mut(migthumo_matrix4 *m, size_t a, size_t b);
 
-/* The entries at two places, each a column and then a row, exchanged; 1 unless all four numbers are below 4. */
+/* The entries at two places, each a column and then a row, exchanged. The four numbers are tested in the order in which
+   they are handed in, and the first that is not below 4 is answered: 11 for first_column, 12 for first_row, 267 for
+   second_column, 268 for second_row. Answers 0, 11, 12, 267 or 268. */
 MIGTHUMO_MUST_USE uint32_t migthumo_swap_elements_mut(migthumo_matrix4 *m, size_t first_column, size_t first_row,
                                                       size_t second_column, size_t second_row);
 

@@ -31,7 +31,8 @@ pub fn numbers(random: &mut Random, number: usize, order: usize, shape: Shape) -
     Case { class: class.name(), numbers: class.draw(random, order, shape), places: Vec::new() }
 }
 
-/// A matrix of the class whose turn it is, and places: in three rounds of four all below the order.
+/// A matrix of the class whose turn it is, and places: in three rounds of four all below the order, in the fourth every
+/// choice of those that are not takes its turn.
 pub fn places(random: &mut Random, number: usize, order: usize, count: usize) -> Case {
     let (class, round) = turn(number, matrix(0));
     let numbers = class.draw(random, order, matrix(0));
@@ -39,7 +40,7 @@ pub fn places(random: &mut Random, number: usize, order: usize, count: usize) ->
     if round % OUTSIDE_ROUNDS < OUTSIDE_ROUNDS - 1 {
         return Case { class: class.name(), numbers, places };
     }
-    let (value, chosen) = (outside(random, order), 1 + random.below((1 << count) - 1));
+    let (value, chosen) = (outside(random, order), 1 + round / OUTSIDE_ROUNDS % ((1 << count) - 1));
     for (place, kept) in places.iter_mut().enumerate() {
         if chosen >> place & 1 == 1 {
             *kept = if random.below(2) == 0 { value } else { outside(random, order) };

@@ -10,6 +10,9 @@ use std::io::{stderr, IsTerminal};
 /// How often the progress line is written, in cases.
 const STEP: u64 = 1_000_000;
 
+/// What a refusal has added for a second place.
+const SECOND: u64 = 256;
+
 /// What a row compares: an operation of an order, by a rule, with somebody's answers.
 #[derive(Clone, Copy)]
 pub struct Entry {
@@ -146,8 +149,8 @@ impl Run {
     }
 }
 
-/// Makes an answer wrong: one number after the other by its last bit or its sign, a refusal by its number, now and
-/// then a refusal in place of what was given or the other way round.
+/// Makes an answer wrong: one number after the other by its last bit or its sign, a refusal by its number or its place,
+/// now and then a refusal in place of what was given or the other way round.
 fn spoil(rule: Rule, number: usize, answer: &mut Answer) {
     let bit = if number % 2 == 0 { 0 } else { 63 };
     match answer {
@@ -161,7 +164,8 @@ fn spoil(rule: Rule, number: usize, answer: &mut Answer) {
             };
         }
         Answer::Number(whole) => *whole ^= 1 << bit,
-        Answer::Refused(number) => *number += 1,
+        Answer::Refused(refusal) => *refusal ^= if number % 2 == 0 { 1 } else { SECOND },
+        Answer::NoPanic => {}
     }
 }
 
@@ -183,6 +187,7 @@ fn answered(answer: &Answer) -> String {
         Answer::Given(entries) => patterns(entries),
         Answer::Number(whole) => whole.to_string(),
         Answer::Refused(number) => format!("refusal {number}"),
+        Answer::NoPanic => "no panic".to_string(),
     }
 }
 

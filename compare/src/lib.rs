@@ -6,10 +6,13 @@ pub mod entries;
 pub mod exact;
 pub mod list;
 pub mod operations;
+pub mod panics;
+pub mod places;
 pub mod random;
 pub mod rule;
 pub mod second;
 pub mod whole;
+pub mod wrong;
 
 #[cfg(feature = "boundary")]
 pub mod built;
@@ -23,8 +26,6 @@ pub mod exported;
 pub mod flat;
 #[cfg(feature = "boundary")]
 pub mod grouping;
-#[cfg(feature = "boundary")]
-pub mod panics;
 #[cfg(feature = "boundary")]
 pub mod rows;
 #[cfg(feature = "boundary")]

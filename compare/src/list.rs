@@ -2,11 +2,13 @@
 
 use crate::classes::{Class, Shape, CLASSES, LINES};
 use crate::entries::Entries;
+use crate::panics::refusing;
+use crate::places::{outside, several_outside};
 use crate::random::Random;
 use crate::rule::Rule;
 use cgmath::{Angle, Rad};
 use std::fmt::Write;
-use std::panic::{catch_unwind, AssertUnwindSafe};
+use std::mem::swap;
 
 /// A word that an operation reads.
 #[derive(Clone, Copy)]
@@ -20,7 +22,10 @@ pub enum Word {
 pub enum Answer {
     Given(Vec<f64>),
     Number(i64),
+    /// What the boundary answers: a refusal's number, and 256 more for a second place.
     Refused(u64),
+    /// cgmath gave something where it has to panic. The same as no other answer.
+    NoPanic,
 }
 
 /// The answer that gives these entries.
@@ -38,6 +43,8 @@ pub fn inverse(answer: Option<impl Entries>) -> Answer {
 pub struct List {
     pub text: String,
     pub random: Random,
+    /// Where the inputs of the added lines come from.
+    apart: Random,
 }
 
 impl List {
@@ -66,8 +73,17 @@ impl List {
             }
             Answer::Number(number) => write!(self.text, " = @{number:x}").unwrap(),
             Answer::Refused(number) => write!(self.text, " ! @{number:x}").unwrap(),
+            Answer::NoPanic => panic!("cgmath does not panic: {}", self.text.lines().last().unwrap_or_default()),
         }
         self.text.push('\n');
+    }
+
+    /// Lines that were added later: their inputs come from a generator of their own, so that the inputs of the others
+    /// stay as they are.
+    pub fn added(&mut self, lines: impl FnOnce(&mut List)) {
+        swap(&mut self.random, &mut self.apart);
+        lines(self);
+        swap(&mut self.random, &mut self.apart);
     }
 
     /// Lines of an operation on numbers, of every class that applies. `mark` goes behind the class.
@@ -96,7 +112,7 @@ impl List {
     }
 
     /// Lines of an operation on numbers and places: every class with places below the order, every place
-    /// below the order, and places that are not, of which each is at least once the only one.
+    /// below the order, and places that are not, in every choice of these.
     pub fn places(
         &mut self,
         name: &str,
@@ -109,7 +125,7 @@ impl List {
             let x = class.draw(&mut list.random, order, shape);
             let mut words = numbers(&x);
             words.extend(places.iter().map(|place| Word::Place(*place)));
-            let answer = refusing(order, places, || does(&x, places));
+            let answer = refusing(entry(name), order, places, || does(&x, places));
             list.line(name, order, word, &words, &answer);
         };
         for class in CLASSES.into_iter().filter(|class| class.applies(shape)) {
@@ -122,7 +138,7 @@ impl List {
             let places: Vec<usize> = (0..count).map(|place| number / order.pow(place as u32) % order).collect();
             line(self, Class::Whole, "below", &places);
         }
-        for outside in [order, order + 1, 5, 1 << 32, 1 << 63, usize::MAX] {
+        for outside in outside(order) {
             for place in 0..count {
                 let mut places = vec![place % order; count];
                 places[place] = outside;
@@ -130,6 +146,11 @@ impl List {
             }
             line(self, Class::Whole, "outside", &vec![outside; count]);
         }
+        self.added(|list| {
+            for places in several_outside(order, count) {
+                line(list, Class::Whole, "outside", &places);
+            }
+        });
     }
 
     /// Lines of a rotation: by the angle from cgmath, with the sine and the cosine of the angle as the words,
@@ -180,18 +201,7 @@ pub fn numbers(x: &[f64]) -> Vec<Word> {
     x.iter().map(|x| Word::Number(*x)).collect()
 }
 
-/// What is answered, or refusal 1 for a panic or for a place that is not below the order.
-fn refusing(order: usize, places: &[usize], does: impl Fn() -> Answer) -> Answer {
-    let below = places.iter().all(|place| *place < order);
-    match catch_unwind(AssertUnwindSafe(does)) {
-        Err(_) => {
-            assert!(!below, "a panic with places below the order");
-            Answer::Refused(1)
-        }
-        Ok(_) if !below => {
-            eprintln!("no panic with places {places:?} at order {order}: refusal 1 is written all the same");
-            Answer::Refused(1)
-        }
-        Ok(answer) => answer,
-    }
+/// The entry of an operation in the table of places: the list puts `vector_` in front of what vectors do.
+pub fn entry(name: &str) -> &str {
+    name.strip_prefix("vector_").unwrap_or(name)
 }

@@ -1,6 +1,7 @@
 //! The Rust's panics, caught without a word where they are asked for.
 
 use crate::list::Answer;
+use crate::places::refusal;
 use std::cell::Cell;
 use std::panic::{catch_unwind, set_hook, take_hook, AssertUnwindSafe};
 
@@ -19,13 +20,14 @@ pub fn quiet() {
     }));
 }
 
-/// What is answered with these places; one that is not below the order may panic, which is refusal 1.
-pub fn refusing(order: usize, places: &[usize], does: impl Fn() -> Answer) -> Answer {
-    if places.iter().all(|place| *place < order) {
+/// What cgmath answers to an entry with these places. Where the table of places refuses them cgmath has to panic, and
+/// the refusal is the table's. Elsewhere it must not panic: nothing is caught.
+pub fn refusing(name: &str, order: usize, places: &[usize], does: impl Fn() -> Answer) -> Answer {
+    let Some(number) = refusal(name, order, places) else {
         return does();
-    }
+    };
     ASKED.set(true);
     let answer = catch_unwind(AssertUnwindSafe(does));
     ASKED.set(false);
-    answer.unwrap_or(Answer::Refused(1))
+    answer.map_or(Answer::Refused(number), |_| Answer::NoPanic)
 }

@@ -19,9 +19,9 @@ pub fn cgmath(name: &'static str, order: usize, rule: Rule) -> Entry {
     Entry { name, order, rule, against: "cgmath", intended: false }
 }
 
-/// A refusal as an answer.
+/// A refusal as an answer: what the boundary answers for it.
 pub fn refused(refusal: Refusal) -> Answer {
-    Answer::Refused(refusal.number().into())
+    Answer::Refused(u32::from(refusal).into())
 }
 
 /// What Migthumo answers: entries or a refusal.
@@ -111,7 +111,7 @@ impl Run {
         self.row(
             cgmath(name, order, Rule::Bits),
             |random, number| cases::places(random, number, order, count),
-            |case| refusing(order, &case.places, || theirs(&case.numbers, &case.places)),
+            |case| refusing(name, order, &case.places, || theirs(&case.numbers, &case.places)),
             |case| ours(&case.numbers, &case.places),
         );
     }

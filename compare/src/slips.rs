@@ -1,13 +1,14 @@
 //! Functions that are wrong on purpose, in the ways this trade knows, held to cgmath as ours are: the classes of input
 //! have to tell each of them from the right one.
 
-use crate::cases;
+use crate::cases::{self, Case};
 use crate::classes::{matrix, Shape, MATRICES};
 use crate::differential::{Entry, Run};
 use crate::entries::Take;
 use crate::list::{given, inverse, Answer};
 use crate::panics::refusing;
 use crate::rule::Rule;
+use crate::wrong::{Wrong, WRONG};
 use cgmath::prelude::*;
 use cgmath::{Matrix2, Matrix3, Matrix4, Point3, Vector3, Vector4};
 
@@ -95,8 +96,13 @@ fn quieted(x: f64) -> f64 {
 }
 
 /// The place itself, or the last one below the order where it is not.
-fn harmless(place: usize) -> usize {
-    place.min(3)
+fn last(place: &usize) -> usize {
+    (*place).min(3)
+}
+
+/// Whether the static library exports an entry that names places: the list alone asks the others.
+fn exported(entry: &str) -> bool {
+    !matches!(entry, "truncate_n" | "cofactor")
 }
 
 impl Run {
@@ -114,32 +120,57 @@ impl Run {
         self.row(entry, draw, |case| right(&case.numbers), |case| wrong(&case.numbers));
     }
 
-    /// Wrong places beside the right ones, and NaNs that are not carried.
+    /// Wrong places beside the right ones, and taken by both sides, and NaNs that are not carried.
     fn slips_of_moves(&mut self) {
+        let harmless =
+            |case: &Case| asked("swap_columns", &case.numbers, &case.places.iter().map(last).collect::<Vec<_>>());
         self.row(
-            Entry {
-                name: "swap(5,5) taken as harmless",
-                order: 4,
-                rule: Rule::Bits,
-                against: "cgmath",
-                intended: true,
-            },
+            moves("swap(5,5) taken as harmless"),
             |random, number| cases::places(random, number, 4, 2),
-            |case| refusing(4, &case.places, || swapped(m4(&case.numbers), case.places[0], case.places[1])),
-            |case| swapped(m4(&case.numbers), harmless(case.places[0]), harmless(case.places[1])),
+            |case| refusing("swap_columns", 4, &case.places, || asked("swap_columns", &case.numbers, &case.places)),
+            harmless,
         );
         self.row(
-            Entry { name: "a NaN quieted on its way", order: 4, rule: Rule::Bits, against: "cgmath", intended: true },
+            moves("swap(5,5) taken as harmless by both"),
+            |random, number| cases::places(random, number, 4, 2),
+            |case| refusing("swap_columns", 4, &case.places, || harmless(case)),
+            harmless,
+        );
+        self.row(
+            moves("a NaN quieted on its way"),
             |random, number| cases::numbers(random, number, 4, matrix(0)),
             |case| given(m4(&case.numbers).transpose()),
             |case| given(m4(&case.numbers.iter().map(|x| quieted(*x)).collect::<Vec<f64>>()).transpose()),
         );
     }
+
+    /// A library that refuses places wrongly, beside the table's refusals.
+    fn slip_of_places(&mut self, wrong: &Wrong) {
+        let done = |case: &Case| asked(wrong.entry, &case.numbers, &case.places);
+        self.row(
+            moves(wrong.name),
+            |random, number| cases::places(random, number, 4, wrong.tests.len()),
+            |case| refusing(wrong.entry, 4, &case.places, || done(case)),
+            |case| wrong.refusal(4, &case.places).map_or_else(|| done(case), Answer::Refused),
+        );
+    }
 }
 
-/// A matrix after an exchange of two columns.
-fn swapped(mut m: Matrix4<f64>, a: usize, b: usize) -> Answer {
-    m.swap_columns(a, b);
+/// A row of a slip that only moves the numbers of a matrix of order 4.
+fn moves(name: &'static str) -> Entry {
+    Entry { name, order: 4, rule: Rule::Bits, against: "cgmath", intended: true }
+}
+
+/// What cgmath's matrix of order 4 answers to an exported entry that names places.
+fn asked(entry: &str, x: &[f64], places: &[usize]) -> Answer {
+    let mut m = m4(x);
+    match (entry, places) {
+        ("row", [r]) => return given(m.row(*r)),
+        ("swap_rows", [a, b]) => m.swap_rows(*a, *b),
+        ("swap_columns", [a, b]) => m.swap_columns(*a, *b),
+        ("swap_elements", [ac, ar, bc, br]) => m.swap_elements((*ac, *ar), (*bc, *br)),
+        _ => unreachable!("{entry} with {} places", places.len()),
+    }
     given(m)
 }
 
@@ -201,4 +232,7 @@ pub fn all(run: &mut Run) {
         |x| homogeneous(m4(x), Take::take(&x[16..])),
     );
     run.slips_of_moves();
+    for wrong in WRONG.iter().filter(|wrong| exported(wrong.entry)) {
+        run.slip_of_places(wrong);
+    }
 }

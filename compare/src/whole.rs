@@ -3,6 +3,7 @@
 
 use crate::exact;
 use crate::list::{numbers, Answer, List, Word};
+use crate::places::{outside, refusal, several_outside};
 use crate::random::Random;
 
 /// What a matrix of whole numbers is made of.
@@ -146,10 +147,10 @@ pub fn undoable(order: usize, x: &[f64]) -> Answer {
     exact::whole(order, x).map_or(Answer::Refused(6), |m| Answer::Number(exact::undoable(exact::signed_sum(&m)) as i64))
 }
 
-/// The cofactor of a place, refusal 1 or refusal 6.
-fn cofactor(order: usize, x: &[f64], places: [usize; 2]) -> Answer {
-    if places.iter().any(|place| *place >= order) {
-        return Answer::Refused(1);
+/// The cofactor of a place, the table's refusal of the place, or refusal 6.
+fn cofactor(order: usize, x: &[f64], places: &[usize]) -> Answer {
+    if let Some(number) = refusal("cofactor", order, places) {
+        return Answer::Refused(number);
     }
     exact::whole(order, x)
         .map_or(Answer::Refused(6), |m| Answer::Number(exact::cofactor(&m, places[0], places[1]) as i64))
@@ -205,28 +206,38 @@ fn cofactors(list: &mut List, order: usize) {
     for (kind, name, _) in KINDS {
         for number in 0..COFACTORS.div_ceil(squared) * squared {
             let x = kind.draw(&mut list.random, order);
-            cofactor_line(list, order, &format!("{name}*"), &x, [number / order % order, number % order]);
+            cofactor_line(list, order, &format!("{name}*"), &x, &[number / order % order, number % order]);
         }
     }
     for (number, edge) in EDGES.into_iter().enumerate() {
         let x = with_edge(&mut list.random, order, number % squared, edge);
         let places = [list.random.below(order as u64) as usize, list.random.below(order as u64) as usize];
-        cofactor_line(list, order, "edge*", &x, places);
+        cofactor_line(list, order, "edge*", &x, &places);
     }
-    for outside in [order, order + 1, 5, 1 << 32, 1 << 63, usize::MAX] {
+    for outside in outside(order) {
         for places in [[outside, 0], [order - 1, outside], [outside, outside]] {
-            let x = Kind::Whole.draw(&mut list.random, order);
-            cofactor_line(list, order, "outside*", &x, places);
-            let x = with_edge(&mut list.random, order, 0, 0.5);
-            cofactor_line(list, order, "outside*", &x, places);
+            cofactors_outside(list, order, &places);
         }
     }
+    list.added(|list| {
+        for places in several_outside(order, 2) {
+            cofactors_outside(list, order, &places);
+        }
+    });
+}
+
+/// Lines of a cofactor with places that are not below the order: of whole numbers, and where an entry is refused too.
+fn cofactors_outside(list: &mut List, order: usize, places: &[usize]) {
+    let x = Kind::Whole.draw(&mut list.random, order);
+    cofactor_line(list, order, "outside*", &x, places);
+    let x = with_edge(&mut list.random, order, 0, 0.5);
+    cofactor_line(list, order, "outside*", &x, places);
 }
 
 /// A line of a cofactor.
-fn cofactor_line(list: &mut List, order: usize, class: &str, x: &[f64], places: [usize; 2]) {
+fn cofactor_line(list: &mut List, order: usize, class: &str, x: &[f64], places: &[usize]) {
     let mut words = numbers(x);
-    words.extend(places.map(Word::Place));
+    words.extend(places.iter().map(|place| Word::Place(*place)));
     list.line("cofactor", order, class, &words, &cofactor(order, x, places));
 }
 

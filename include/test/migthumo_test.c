@@ -6,7 +6,8 @@
  *     target/c_test
  *
  * With no Rattle kit leave out the first line, and name prebuilt/x86_64-linux/libmigthumo.a in the second. It is C++11
- * too (c++ -x c++ -std=c++11). Its last line counts the checks; it exits with 1 where one of them failed.
+ * too (c++ -x c++ -std=c++11). It reads include/test/places.txt, or the file that its argument names. Its last line
+ * counts the checks; it exits with 1 where one of them failed.
  */
 #include "migthumo.h"
 
@@ -267,11 +268,10 @@ static void places(void)
     same_bits("transpose of NaNs, their bits", out, turned, 4);
 
     fill(out, 9);
-    refuses("R11, columns 5 and 5", migthumo_swap_columns(2, 5, 5, counted, 4, out, 4), MIGTHUMO_OUT_OF_RANGE, out, 9);
-    refuses("rows 0 and 3", migthumo_swap_rows(3, 0, 3, counted, 9, out, 9), MIGTHUMO_OUT_OF_RANGE, out, 9);
-    refuses("element at row 3", migthumo_swap_elements(3, 0, 0, 0, 3, counted, 9, out, 9),
-            MIGTHUMO_OUT_OF_RANGE, out, 9);
-    refuses("row 3", migthumo_row(3, 3, counted, 9, out, 3), MIGTHUMO_OUT_OF_RANGE, out, 9);
+    refuses("R11, columns 5 and 5", migthumo_swap_columns(2, 5, 5, counted, 4, out, 4), MIGTHUMO_FIRST_COLUMN, out, 9);
+    refuses("rows 0 and 3", migthumo_swap_rows(3, 0, 3, counted, 9, out, 9), MIGTHUMO_SECOND_ROW, out, 9);
+    refuses("element at row 3", migthumo_swap_elements(3, 0, 0, 0, 3, counted, 9, out, 9), MIGTHUMO_SECOND_ROW, out, 9);
+    refuses("row 3", migthumo_row(3, 3, counted, 9, out, 3), MIGTHUMO_FIRST_ROW, out, 9);
     refuses("row 3, output long", migthumo_row(3, 3, counted, 9, out, 9), MIGTHUMO_OUTPUT_LENGTH, out, 9);
     refuses("diagonal, order 5", migthumo_diagonal(5, counted, 9, out, 3), MIGTHUMO_ORDER, out, 9);
     refuses("transpose, matrix of 8", migthumo_transpose(3, counted, 8, out, 9), MIGTHUMO_INPUT_LENGTH, out, 9);
@@ -344,11 +344,11 @@ static void in_place(void)
     holds("elements in place, swapped", &m, elements);
 
     memcpy(&m, counted, sizeof m);
-    answers("rows 4 and 4", migthumo_swap_rows_mut(&m, 4, 4), MIGTHUMO_OUT_OF_RANGE);
+    answers("rows 4 and 4", migthumo_swap_rows_mut(&m, 4, 4), MIGTHUMO_FIRST_ROW);
     holds("rows 4 and 4, as it was", &m, counted);
-    answers("columns 0 and 4", migthumo_swap_columns_mut(&m, 0, 4), MIGTHUMO_OUT_OF_RANGE);
+    answers("columns 0 and 4", migthumo_swap_columns_mut(&m, 0, 4), MIGTHUMO_SECOND_COLUMN);
     holds("columns 0 and 4, as it was", &m, counted);
-    answers("element at row 4", migthumo_swap_elements_mut(&m, 0, 0, 0, 4), MIGTHUMO_OUT_OF_RANGE);
+    answers("element at row 4", migthumo_swap_elements_mut(&m, 0, 0, 0, 4), MIGTHUMO_SECOND_ROW);
     holds("element at row 4, as it was", &m, counted);
 }
 
@@ -575,9 +575,267 @@ static void exact_lengths(void)
     check("verdicts, not written", flag[0] == 99 && flag[1] == 99);
 }
 
-int main(void)
+/* An answer with its number and its place, and with both as the macros give them where a constant is asked for. */
+#define ANSWER(answer, number, place) {answer, number, place, MIGTHUMO_NUMBER(answer), MIGTHUMO_PLACE(answer)}
+
+/* Every answer, by its name and by its number, and one that is none. */
+static const struct {
+    uint32_t answer, number, place, constant_number, constant_place;
+} all_answers[] = {
+    ANSWER(MIGTHUMO_GIVEN, 0, 0), ANSWER(MIGTHUMO_SINGULAR, 2, 0), ANSWER(MIGTHUMO_INPUT_LENGTH, 3, 0),
+    ANSWER(MIGTHUMO_OUTPUT_LENGTH, 4, 0), ANSWER(MIGTHUMO_ORDER, 5, 0), ANSWER(MIGTHUMO_NOT_WHOLE, 6, 0),
+    ANSWER(MIGTHUMO_FIRST_COLUMN, 11, 1), ANSWER(MIGTHUMO_FIRST_ROW, 12, 1),
+    ANSWER(MIGTHUMO_SECOND_COLUMN, 11, 2), ANSWER(MIGTHUMO_SECOND_ROW, 12, 2),
+    ANSWER(0, 0, 0), ANSWER(2, 2, 0), ANSWER(3, 3, 0), ANSWER(4, 4, 0), ANSWER(5, 5, 0), ANSWER(6, 6, 0),
+    ANSWER(11, 11, 1), ANSWER(12, 12, 1), ANSWER(267, 11, 2), ANSWER(268, 12, 2), ANSWER(20, 20, 0)
+};
+
+/* The number and the place of every answer: as a constant, as what a function answers, as an int and as the enum. */
+static void numbers_and_places(void)
+{
+    size_t i;
+    for (i = 0; i < sizeof all_answers / sizeof *all_answers; i++) {
+        const uint32_t answer = all_answers[i].answer, number = all_answers[i].number, place = all_answers[i].place;
+        const int plain = (int)answer;
+        const enum migthumo_answer named = (enum migthumo_answer)answer;
+        answers("number, a constant", all_answers[i].constant_number, number);
+        answers("place, a constant", all_answers[i].constant_place, place);
+        answers("number", MIGTHUMO_NUMBER(answer), number);
+        answers("place", MIGTHUMO_PLACE(answer), place);
+        check("number of an int", MIGTHUMO_NUMBER(plain) == (int)number);
+        check("place of an int", MIGTHUMO_PLACE(plain) == (int)place);
+        answers("number of the enum", (uint32_t)MIGTHUMO_NUMBER(named), number);
+        answers("place of the enum", MIGTHUMO_PLACE(named), place);
+    }
+    answers("number, not a name alone", MIGTHUMO_NUMBER(8 | 256 | 3), 11);
+    answers("place, not a name alone", MIGTHUMO_PLACE(8 | 256 | 3), 2);
+}
+
+/* The entries of the table of places that the library exports, and how many numbers each takes. */
+static const struct {
+    const char *name;
+    enum function function;
+    size_t numbers;
+} entries[] = {{"row", ROW, 1}, {"swap_rows", SWAP_ROWS, 2}, {"swap_columns", SWAP_COLUMNS, 2},
+               {"swap_elements", SWAP_ELEMENTS, 4}};
+
+/* How many there are, how many lines of the table they have together, and the most numbers that one takes. */
+enum { ENTRIES = sizeof entries / sizeof *entries, LINES = 2 + 4 + 4 + 16, NUMBERS = 4 };
+
+/* Calls one of them at these numbers, by value. */
+static uint32_t call_at(enum function f, size_t n, const size_t *at, const double *m, size_t m_length,
+                        double *out, size_t length)
+{
+    switch (f) {
+    case ROW: return migthumo_row(n, at[0], m, m_length, out, length);
+    case SWAP_ROWS: return migthumo_swap_rows(n, at[0], at[1], m, m_length, out, length);
+    case SWAP_COLUMNS: return migthumo_swap_columns(n, at[0], at[1], m, m_length, out, length);
+    case SWAP_ELEMENTS: return migthumo_swap_elements(n, at[0], at[1], at[2], at[3], m, m_length, out, length);
+    default: return 99;
+    }
+}
+
+/* Calls one of the swaps at these numbers, in place. */
+static uint32_t call_mut(enum function f, const size_t *at, migthumo_matrix4 *m)
+{
+    switch (f) {
+    case SWAP_ROWS: return migthumo_swap_rows_mut(m, at[0], at[1]);
+    case SWAP_COLUMNS: return migthumo_swap_columns_mut(m, at[0], at[1]);
+    case SWAP_ELEMENTS: return migthumo_swap_elements_mut(m, at[0], at[1], at[2], at[3]);
+    default: return 99;
+    }
+}
+
+/* Exchanges two numbers. */
+static void exchange(double *a, double *b)
+{
+    const double kept = *a;
+    *a = *b;
+    *b = kept;
+}
+
+/* What an entry writes at numbers that are below the order: the library's own, worked out apart. */
+static void write_at(enum function f, size_t n, const size_t *at, const double *m, double *out)
+{
+    size_t i;
+    if (f != ROW)
+        memcpy(out, m, n * n * sizeof *m);
+    if (f == SWAP_ELEMENTS)
+        exchange(&out[at[0] * n + at[1]], &out[at[2] * n + at[3]]);
+    for (i = 0; i < n; i++) {
+        if (f == ROW)
+            out[i] = m[i * n + at[0]];
+        if (f == SWAP_ROWS)
+            exchange(&out[i * n + at[0]], &out[i * n + at[1]]);
+        if (f == SWAP_COLUMNS)
+            exchange(&out[at[0] * n + i], &out[at[1] * n + i]);
+    }
+}
+
+/* One call by value: it answers this, and the output holds what is worked out apart, or what it held before. */
+static void by_value(const char *what, enum function f, size_t n, const size_t *at, uint32_t answer)
+{
+    const size_t length = f == ROW ? n : n * n;
+    double out[17], want[17];
+    fill(out, 17);
+    fill(want, 17);
+    if (answer == MIGTHUMO_GIVEN)
+        write_at(f, n, at, counted, want);
+    answers(what, call_at(f, n, at, counted, n * n, out, length), answer);
+    same_bits(what, out, want, 17);
+
+    /* Whatever the numbers are, the order and the lengths come first. */
+    fill(out, 17);
+    refuses(what, call_at(f, 1, at, counted, n * n, out, length), MIGTHUMO_ORDER, out, 17);
+    refuses(what, call_at(f, n, at, counted, n * n - 1, out, length - 1), MIGTHUMO_INPUT_LENGTH, out, 17);
+    refuses(what, call_at(f, n, at, counted, n * n, out, length + 1), MIGTHUMO_OUTPUT_LENGTH, out, 17);
+}
+
+/* One call in place, likewise. */
+static void lent(const char *what, enum function f, const size_t *at, uint32_t answer)
+{
+    double want[16];
+    migthumo_matrix4 m;
+    memcpy(&m, counted, sizeof m);
+    memcpy(want, counted, sizeof want);
+    if (answer == MIGTHUMO_GIVEN)
+        write_at(f, 4, at, counted, want);
+    answers(what, call_mut(f, at, &m), answer);
+    holds(what, &m, want);
+}
+
+/* A line of the table, for one order. */
+struct line {
+    enum function f;
+    size_t numbers, order;
+    const char *what, *pattern;
+    uint32_t answer;
+};
+
+/* Calls the entry with every choice of numbers that fits the pattern, once `chosen` of them are chosen. */
+static void choose(const struct line *line, size_t *at, size_t chosen)
+{
+    const size_t n = line->order, below[2] = {0, n - 1}, not_below[3] = {n, n + 1, SIZE_MAX};
+    const int b = line->pattern[chosen] == 'b';
+    size_t i;
+    if (chosen == line->numbers) {
+        by_value(line->what, line->f, n, at, line->answer);
+        if (n == 4 && line->f != ROW)
+            lent(line->what, line->f, at, line->answer);
+        return;
+    }
+    for (i = 0; i < (b ? 2u : 3u); i++) {
+        at[chosen] = b ? below[i] : not_below[i];
+        choose(line, at, chosen + 1);
+    }
+}
+
+/* The pattern as a number with a bit for each b, or -1 where it is not one of so many numbers. */
+static int pattern_number(const char *pattern, size_t numbers)
+{
+    size_t i;
+    int number = 0;
+    for (i = 0; i < numbers && (pattern[i] == 'b' || pattern[i] == 'n'); i++)
+        number = 2 * number + (pattern[i] == 'b');
+    return i == numbers && pattern[i] == '\0' ? number : -1;
+}
+
+/* Which patterns of each entry were run, a bit for each, and how many lines. */
+struct run {
+    unsigned seen[ENTRIES], lines;
+};
+
+/* Runs a line of the table at every order; whether it reads as a line of a known entry that was not run before, with 0
+   only where every number is below the order. */
+static int run_line(const char *text, struct run *run)
+{
+    char name[16], pattern[8], what[80];
+    struct line line = {ROW, 0, 2, what, pattern, 0};
+    size_t at[NUMBERS] = {0}, entry = 0;
+    int end = 0, number;
+
+    if (sscanf(text, "%15s %7s %9" SCNu32 " %n", name, pattern, &line.answer, &end) != 3 || text[end] != '\0')
+        return 0;
+    if (strcmp(name, "truncate_n") == 0 || strcmp(name, "cofactor") == 0)
+        return 1;
+    while (entry < ENTRIES && strcmp(name, entries[entry].name) != 0)
+        entry++;
+    if (entry == ENTRIES)
+        return 0;
+    line.f = entries[entry].function;
+    line.numbers = entries[entry].numbers;
+    number = pattern_number(pattern, line.numbers);
+    if (number < 0 || run->seen[entry] & 1u << number || (line.answer == MIGTHUMO_GIVEN && strchr(pattern, 'n')))
+        return 0;
+    run->seen[entry] |= 1u << number;
+    run->lines++;
+    for (; line.order <= 4; line.order++) {
+        snprintf(what, sizeof what, "%s %s at order %u", name, pattern, (unsigned)line.order);
+        choose(&line, at, 0);
+    }
+    return 1;
+}
+
+/* Runs every line of the table of places but those of entries that are not exported. */
+static void table_of_places(const char *path)
+{
+    struct run run = {{0}, 0};
+    char line[256];
+    FILE *table = fopen(path, "r");
+
+    check("the table of places can be opened", table != NULL);
+    if (table == NULL) {
+        printf("  %s\n", path);
+        return;
+    }
+    while (fgets(line, sizeof line, table) != NULL) {
+        const int good = line[0] == '#' || run_line(line, &run);
+        check("a line of the table of places can be run", good);
+        if (!good)
+            printf("  %s: %.*s\n", path, (int)strcspn(line, "\n"), line);
+    }
+    check("the table of places can be read", !ferror(table));
+    check("every line of the table of places was run", run.lines == LINES);
+    if (run.lines != LINES)
+        printf("  %u lines, not %u\n", run.lines, (unsigned)LINES);
+    fclose(table);
+}
+
+/* Equal numbers below the order change nothing. */
+static void equal_numbers(void)
+{
+    double out[16];
+    migthumo_matrix4 m;
+    size_t n, c, r;
+
+    memcpy(&m, counted, sizeof m);
+    for (n = 2; n <= 4; n++)
+        for (c = 0; c < n; c++) {
+            fill(out, 16);
+            answers("a row and itself", migthumo_swap_rows(n, c, c, counted, n * n, out, n * n), MIGTHUMO_GIVEN);
+            same_bits("a row and itself, as it was", out, counted, n * n);
+            fill(out, 16);
+            answers("a column and itself", migthumo_swap_columns(n, c, c, counted, n * n, out, n * n), MIGTHUMO_GIVEN);
+            same_bits("a column and itself, as it was", out, counted, n * n);
+            for (r = 0; r < n; r++) {
+                fill(out, 16);
+                answers("an element and itself", migthumo_swap_elements(n, c, r, c, r, counted, n * n, out, n * n),
+                        MIGTHUMO_GIVEN);
+                same_bits("an element and itself, as it was", out, counted, n * n);
+                answers("an element and itself in place", migthumo_swap_elements_mut(&m, c, r, c, r), MIGTHUMO_GIVEN);
+                holds("an element and itself in place, as it was", &m, counted);
+            }
+            answers("a row and itself in place", migthumo_swap_rows_mut(&m, c, c), MIGTHUMO_GIVEN);
+            holds("a row and itself in place, as it was", &m, counted);
+            answers("a column and itself in place", migthumo_swap_columns_mut(&m, c, c), MIGTHUMO_GIVEN);
+            holds("a column and itself in place, as it was", &m, counted);
+        }
+}
+
+int main(int argc, char **argv)
 {
     check("the header's version is the library's", migthumo_version() == MIGTHUMO_VERSION);
+    check("the header's version", MIGTHUMO_VERSION == 2);
     moves();
     inverses();
     arithmetic();
@@ -588,6 +846,9 @@ int main(void)
     in_place();
     lengths();
     exact_lengths();
+    numbers_and_places();
+    table_of_places(argc > 1 ? argv[1] : "include/test/places.txt");
+    equal_numbers();
     printf("%u checks, %u failed\n", checks, failures);
     return failures != 0;
 }

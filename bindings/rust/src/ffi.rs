@@ -2,8 +2,9 @@
 //!
 //! A matrix of order n is n * n numbers, one column after the other; a vector is n numbers. Each function answers `Ok`
 //! with the output written in full, or a [`Refusal`] with the output as it was. Where more than one cause applies, the
-//! first in the order `Order`, `InputLength`, `OutputLength`, `OutOfRange`, `NotWhole`, `Singular` is given. A number
-//! that this crate doesn't know is [`Refusal::Unknown`]; a library of the right version answers none.
+//! first in the order `Order`, `InputLength`, `OutputLength`, then `Column` and `Row`, then `NotWhole`, `Singular` is
+//! given; column and row numbers are tested in the order in which they are handed in. An answer that this crate doesn't
+//! know is [`Refusal::Unknown`]; a library of the right version gives none.
 //!
 //! This file holds all of the crate's `unsafe`: the declarations of libmigthumo.a, one safe function over each, and
 //! the views of a record as its numbers. What makes a call safe is the same everywhere: a slice goes over as its own
@@ -13,7 +14,7 @@
 use crate::{Matrix2, Matrix3, Matrix4, Refusal, Vector2, Vector3, Vector4};
 use core::{ptr, slice};
 
-// What the library exports: a slice is a pointer and then a length, the answer 0 or a refusal's number.
+// What the library exports: a slice is a pointer and then a length, the answer 0 or a refusal's.
 extern "C" {
     fn migthumo_move_vectors(
         order: usize,
@@ -131,10 +132,10 @@ fn answer(number: u32) -> Result<(), Refusal> {
     }
 }
 
-/// The refusal with this number, known or not.
+/// The refusal that is answered so, known or not.
 #[cold]
-fn refused(number: u32) -> Refusal {
-    Refusal::from_number(number).unwrap_or(Refusal::Unknown(number))
+fn refused(answer: u32) -> Refusal {
+    Refusal::from_answer(answer).unwrap_or(Refusal::Unknown(answer))
 }
 
 // ---- records as numbers in a row
@@ -233,7 +234,7 @@ pub(crate) fn numbers_mut<T: Record>(record: &mut T) -> &mut [f64] {
 /// The version of the library that is linked. The build script compares it with [`VERSION`](crate::VERSION).
 ///
 /// ```
-/// assert_eq!(migthumo::ffi::version(), 1);
+/// assert_eq!(migthumo::ffi::version(), 2);
 /// ```
 #[inline]
 #[must_use]
@@ -483,8 +484,8 @@ pub fn undoable(order: usize, m: &[f64], out: &mut [u8]) -> Result<(), Refusal> 
 /// # Errors
 ///
 /// [`Refusal::Order`] unless the order is 2, 3 or 4; [`Refusal::InputLength`] unless `m` has order * order numbers;
-/// [`Refusal::OutputLength`] unless `out` has order * order numbers; [`Refusal::OutOfRange`] unless `a` and `b` are
-/// below the order.
+/// [`Refusal::OutputLength`] unless `out` has order * order numbers; [`Refusal::Row(Place::First)`](Refusal::Row)
+/// unless `a` is below the order, then [`Refusal::Row(Place::Second)`](Refusal::Row) unless `b` is.
 #[inline]
 pub fn swap_rows(order: usize, a: usize, b: usize, m: &[f64], out: &mut [f64]) -> Result<(), Refusal> {
     // SAFETY: each of `m` and `out` goes over with its own length.
@@ -505,8 +506,8 @@ pub fn swap_rows(order: usize, a: usize, b: usize, m: &[f64], out: &mut [f64]) -
 /// # Errors
 ///
 /// [`Refusal::Order`] unless the order is 2, 3 or 4; [`Refusal::InputLength`] unless `m` has order * order numbers;
-/// [`Refusal::OutputLength`] unless `out` has order * order numbers; [`Refusal::OutOfRange`] unless `a` and `b` are
-/// below the order.
+/// [`Refusal::OutputLength`] unless `out` has order * order numbers; [`Refusal::Column(Place::First)`](Refusal::Column)
+/// unless `a` is below the order, then [`Refusal::Column(Place::Second)`](Refusal::Column) unless `b` is.
 #[inline]
 pub fn swap_columns(order: usize, a: usize, b: usize, m: &[f64], out: &mut [f64]) -> Result<(), Refusal> {
     // SAFETY: each of `m` and `out` goes over with its own length.
@@ -527,8 +528,10 @@ pub fn swap_columns(order: usize, a: usize, b: usize, m: &[f64], out: &mut [f64]
 /// # Errors
 ///
 /// [`Refusal::Order`] unless the order is 2, 3 or 4; [`Refusal::InputLength`] unless `m` has order * order numbers;
-/// [`Refusal::OutputLength`] unless `out` has order * order numbers; [`Refusal::OutOfRange`] unless all four places are
-/// below the order.
+/// [`Refusal::OutputLength`] unless `out` has order * order numbers; then for the first number that is not below the
+/// order: [`Refusal::Column(Place::First)`](Refusal::Column) for `ac`, [`Refusal::Row(Place::First)`](Refusal::Row) for
+/// `ar`, [`Refusal::Column(Place::Second)`](Refusal::Column) for `bc`, [`Refusal::Row(Place::Second)`](Refusal::Row)
+/// for `br`.
 #[inline]
 pub fn swap_elements(
     order: usize,
@@ -557,8 +560,8 @@ pub fn swap_elements(
 /// # Errors
 ///
 /// [`Refusal::Order`] unless the order is 2, 3 or 4; [`Refusal::InputLength`] unless `m` has order * order numbers;
-/// [`Refusal::OutputLength`] unless `out` has as many numbers as the order; [`Refusal::OutOfRange`] unless `r` is below
-/// the order.
+/// [`Refusal::OutputLength`] unless `out` has as many numbers as the order;
+/// [`Refusal::Row(Place::First)`](Refusal::Row) unless `r` is below the order.
 #[inline]
 pub fn row(order: usize, r: usize, m: &[f64], out: &mut [f64]) -> Result<(), Refusal> {
     // SAFETY: each of `m` and `out` goes over with its own length.
@@ -826,7 +829,8 @@ pub fn from_axis_angle(order: usize, x: f64, y: f64, z: f64, s: f64, c: f64, out
 ///
 /// # Errors
 ///
-/// [`Refusal::OutOfRange`], and the matrix as it was, unless `a` and `b` are below 4.
+/// [`Refusal::Row(Place::First)`](Refusal::Row) unless `a` is below 4, then
+/// [`Refusal::Row(Place::Second)`](Refusal::Row) unless `b` is. Where it is refused, the matrix is as it was.
 #[inline]
 pub fn swap_rows_mut(m: &mut Matrix4, a: usize, b: usize) -> Result<(), Refusal> {
     // SAFETY: `m` is a matrix that is lent for change.
@@ -846,7 +850,8 @@ pub fn swap_rows_mut(m: &mut Matrix4, a: usize, b: usize) -> Result<(), Refusal>
 ///
 /// # Errors
 ///
-/// [`Refusal::OutOfRange`], and the matrix as it was, unless `a` and `b` are below 4.
+/// [`Refusal::Column(Place::First)`](Refusal::Column) unless `a` is below 4, then
+/// [`Refusal::Column(Place::Second)`](Refusal::Column) unless `b` is. Where it is refused, the matrix is as it was.
 #[inline]
 pub fn swap_columns_mut(m: &mut Matrix4, a: usize, b: usize) -> Result<(), Refusal> {
     // SAFETY: `m` is a matrix that is lent for change.
@@ -866,7 +871,9 @@ pub fn swap_columns_mut(m: &mut Matrix4, a: usize, b: usize) -> Result<(), Refus
 ///
 /// # Errors
 ///
-/// [`Refusal::OutOfRange`], and the matrix as it was, unless all four places are below 4.
+/// For the first number that is not below 4: [`Refusal::Column(Place::First)`](Refusal::Column) for `ac`,
+/// [`Refusal::Row(Place::First)`](Refusal::Row) for `ar`, [`Refusal::Column(Place::Second)`](Refusal::Column) for `bc`,
+/// [`Refusal::Row(Place::Second)`](Refusal::Row) for `br`. Where it is refused, the matrix is as it was.
 #[inline]
 pub fn swap_elements_mut(m: &mut Matrix4, ac: usize, ar: usize, bc: usize, br: usize) -> Result<(), Refusal> {
     // SAFETY: `m` is a matrix that is lent for change.
@@ -876,12 +883,15 @@ pub fn swap_elements_mut(m: &mut Matrix4, ac: usize, ar: usize, bc: usize, br: u
 #[cfg(test)]
 mod tests {
     use super::*;
+    use crate::Place;
 
     #[test]
     fn every_answer_is_a_value() {
         assert_eq!(answer(0), Ok(()));
         assert_eq!(answer(2), Err(Refusal::Singular));
-        for number in [7, 11, 255, 267, u32::MAX] {
+        assert_eq!([answer(11), answer(267)], [Place::First, Place::Second].map(|place| Err(Refusal::Column(place))));
+        assert_eq!([answer(12), answer(268)], [Place::First, Place::Second].map(|place| Err(Refusal::Row(place))));
+        for number in [1, 7, 255, 256, 258, 523, 524, u32::MAX] {
             assert_eq!(answer(number), Err(Refusal::Unknown(number)));
         }
     }

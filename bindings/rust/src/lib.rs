@@ -58,7 +58,7 @@ mod version;
 pub use matrix2::Matrix2;
 pub use matrix3::Matrix3;
 pub use matrix4::Matrix4;
-pub use refusal::{Refusal, UnknownNumber};
+pub use refusal::{Place, Refusal, UnknownAnswer};
 pub use vector::{Vector2, Vector3, Vector4};
 pub use version::VERSION;
 

@@ -168,18 +168,19 @@ impl Matrix4 {
     /// Exchanges rows a and b in place.
     ///
     /// ```
-    /// use migthumo::{Matrix4, Refusal};
+    /// use migthumo::{Matrix4, Place, Refusal};
     ///
     /// let mut m = Matrix4::identity();
     /// m.swap_rows(0, 3)?;
     /// assert_eq!((m[0][3], m[3][0]), (1.0, 1.0));
-    /// assert_eq!(m.swap_rows(5, 5), Err(Refusal::OutOfRange));
+    /// assert_eq!(m.swap_rows(5, 5), Err(Refusal::Row(Place::First)));
     /// # Ok::<(), Refusal>(())
     /// ```
     ///
     /// # Errors
     ///
-    /// [`Refusal::OutOfRange`], and nothing changed, unless both are below 4.
+    /// [`Refusal::Row(Place::First)`](Refusal::Row) unless a is below 4, then
+    /// [`Refusal::Row(Place::Second)`](Refusal::Row) unless b is. Where it is refused, nothing is changed.
     #[inline]
     pub fn swap_rows(&mut self, a: usize, b: usize) -> Result<(), Refusal> {
         ffi::swap_rows_mut(self, a, b)
@@ -188,18 +189,19 @@ impl Matrix4 {
     /// Exchanges columns a and b in place.
     ///
     /// ```
-    /// use migthumo::{Matrix4, Refusal};
+    /// use migthumo::{Matrix4, Place, Refusal};
     ///
     /// let mut m = Matrix4::identity();
     /// m.swap_columns(0, 3)?;
     /// assert_eq!((m[0][3], m[3][0]), (1.0, 1.0));
-    /// assert_eq!(m.swap_columns(0, 4), Err(Refusal::OutOfRange));
+    /// assert_eq!(m.swap_columns(0, 4), Err(Refusal::Column(Place::Second)));
     /// # Ok::<(), Refusal>(())
     /// ```
     ///
     /// # Errors
     ///
-    /// [`Refusal::OutOfRange`], and nothing changed, unless both are below 4.
+    /// [`Refusal::Column(Place::First)`](Refusal::Column) unless a is below 4, then
+    /// [`Refusal::Column(Place::Second)`](Refusal::Column) unless b is. Where it is refused, nothing is changed.
     #[inline]
     pub fn swap_columns(&mut self, a: usize, b: usize) -> Result<(), Refusal> {
         ffi::swap_columns_mut(self, a, b)
@@ -208,18 +210,21 @@ impl Matrix4 {
     /// Exchanges in place the entries at two places, each a column and then a row.
     ///
     /// ```
-    /// use migthumo::{Matrix4, Refusal};
+    /// use migthumo::{Matrix4, Place, Refusal};
     ///
     /// let mut m = Matrix4::identity();
     /// m.swap_elements((0, 0), (3, 1))?;
     /// assert_eq!((m[0][0], m[3][1]), (0.0, 1.0));
-    /// assert_eq!(m.swap_elements((0, 0), (3, 4)), Err(Refusal::OutOfRange));
+    /// assert_eq!(m.swap_elements((0, 0), (3, 4)), Err(Refusal::Row(Place::Second)));
     /// # Ok::<(), Refusal>(())
     /// ```
     ///
     /// # Errors
     ///
-    /// [`Refusal::OutOfRange`], and nothing changed, unless all four numbers are below 4.
+    /// For the first number that is not below 4: [`Refusal::Column(Place::First)`](Refusal::Column) for a's column,
+    /// [`Refusal::Row(Place::First)`](Refusal::Row) for a's row, [`Refusal::Column(Place::Second)`](Refusal::Column)
+    /// for b's column, [`Refusal::Row(Place::Second)`](Refusal::Row) for b's row. Where it is refused, nothing is
+    /// changed.
     #[inline]
     pub fn swap_elements(&mut self, a: (usize, usize), b: (usize, usize)) -> Result<(), Refusal> {
         ffi::swap_elements_mut(self, a.0, a.1, b.0, b.1)

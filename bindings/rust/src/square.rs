@@ -156,18 +156,18 @@ macro_rules! square {
             ///
             /// ```
             #[doc = $import]
-            /// use migthumo::Refusal;
+            /// use migthumo::{Place, Refusal};
             ///
             /// let mut m = Matrix::zero();
             /// m[0][1] = 7.0;
             /// assert_eq!(m.row(1)?[0], 7.0);
-            /// assert_eq!(m.row(Matrix::ORDER), Err(Refusal::OutOfRange));
+            /// assert_eq!(m.row(Matrix::ORDER), Err(Refusal::Row(Place::First)));
             /// # Ok::<(), Refusal>(())
             /// ```
             ///
             /// # Errors
             ///
-            /// [`Refusal::OutOfRange`] unless the row number is below the order.
+            /// [`Refusal::Row(Place::First)`](Refusal::Row) unless the row number is below the order.
             #[inline]
             pub fn row(&self, r: usize) -> Result<$Vector, Refusal> {
                 asked(|out| ffi::row(Self::ORDER, r, ffi::numbers(self), out))
@@ -398,18 +398,20 @@ macro_rules! swaps {
             ///
             /// ```
             #[doc = $import]
-            /// use migthumo::Refusal;
+            /// use migthumo::{Place, Refusal};
             ///
             /// let mut m = Matrix::identity();
             /// m.swap_rows(0, 1)?;
             /// assert_eq!(m[0][1], 1.0);
-            /// assert_eq!(m.swap_rows(5, 5), Err(Refusal::OutOfRange));
+            /// assert_eq!(m.swap_rows(5, 5), Err(Refusal::Row(Place::First)));
+            /// assert_eq!(m.swap_rows(0, 5), Err(Refusal::Row(Place::Second)));
             /// # Ok::<(), Refusal>(())
             /// ```
             ///
             /// # Errors
             ///
-            /// [`Refusal::OutOfRange`], and nothing changed, unless both are below the order.
+            /// [`Refusal::Row(Place::First)`](Refusal::Row) unless a is below the order, then
+            /// [`Refusal::Row(Place::Second)`](Refusal::Row) unless b is. Where it is refused, nothing is changed.
             #[inline]
             pub fn swap_rows(&mut self, a: usize, b: usize) -> Result<(), Refusal> {
                 let before = *self;
@@ -420,18 +422,21 @@ macro_rules! swaps {
             ///
             /// ```
             #[doc = $import]
-            /// use migthumo::Refusal;
+            /// use migthumo::{Place, Refusal};
             ///
             /// let mut m = Matrix::identity();
             /// m.swap_columns(0, 1)?;
             /// assert_eq!(m[0][1], 1.0);
-            /// assert_eq!(m.swap_columns(5, 5), Err(Refusal::OutOfRange));
+            /// assert_eq!(m.swap_columns(5, 5), Err(Refusal::Column(Place::First)));
+            /// assert_eq!(m.swap_columns(0, 5), Err(Refusal::Column(Place::Second)));
             /// # Ok::<(), Refusal>(())
             /// ```
             ///
             /// # Errors
             ///
-            /// [`Refusal::OutOfRange`], and nothing changed, unless both are below the order.
+            /// [`Refusal::Column(Place::First)`](Refusal::Column) unless a is below the order, then
+            /// [`Refusal::Column(Place::Second)`](Refusal::Column) unless b is. Where it is refused, nothing is
+            /// changed.
             #[inline]
             pub fn swap_columns(&mut self, a: usize, b: usize) -> Result<(), Refusal> {
                 let before = *self;
@@ -442,18 +447,22 @@ macro_rules! swaps {
             ///
             /// ```
             #[doc = $import]
-            /// use migthumo::Refusal;
+            /// use migthumo::{Place, Refusal};
             ///
             /// let mut m = Matrix::identity();
             /// m.swap_elements((0, 0), (1, 0))?;
             /// assert_eq!((m[0][0], m[1][0]), (0.0, 1.0));
-            /// assert_eq!(m.swap_elements((0, 0), (0, 5)), Err(Refusal::OutOfRange));
+            /// assert_eq!(m.swap_elements((0, 0), (0, 5)), Err(Refusal::Row(Place::Second)));
+            /// assert_eq!(m.swap_elements((5, 5), (5, 5)), Err(Refusal::Column(Place::First)));
             /// # Ok::<(), Refusal>(())
             /// ```
             ///
             /// # Errors
             ///
-            /// [`Refusal::OutOfRange`], and nothing changed, unless all four numbers are below the order.
+            /// For the first number that is not below the order: [`Refusal::Column(Place::First)`](Refusal::Column) for
+            /// a's column, [`Refusal::Row(Place::First)`](Refusal::Row) for a's row,
+            /// [`Refusal::Column(Place::Second)`](Refusal::Column) for b's column,
+            /// [`Refusal::Row(Place::Second)`](Refusal::Row) for b's row. Where it is refused, nothing is changed.
             #[inline]
             pub fn swap_elements(&mut self, a: (usize, usize), b: (usize, usize)) -> Result<(), Refusal> {
                 let before = *self;

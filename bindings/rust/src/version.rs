@@ -6,4 +6,4 @@
 /// ```
 /// assert_eq!(migthumo::ffi::version(), migthumo::VERSION);
 /// ```
-pub const VERSION: u32 = 1;
+pub const VERSION: u32 = 2;

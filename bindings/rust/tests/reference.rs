@@ -1,7 +1,7 @@
 //! The cases of document 01, 'Reference cases, both sides of each edge', R1 to R12 and those that are only run, through
 //! the crate's own names.
 
-use migthumo::{ffi, Matrix2, Matrix3, Matrix4, Refusal, Vector3};
+use migthumo::{ffi, Matrix2, Matrix3, Matrix4, Place, Refusal, Vector3};
 
 /// The bits of every entry, column by column.
 fn bits2(m: Matrix2) -> [[u64; 2]; 2] {
@@ -73,7 +73,7 @@ fn r10_order_4() {
 fn r11_equal_numbers() {
     let mut m = Matrix2::new(1.0, 2.0, 3.0, 4.0);
     assert_eq!(m.swap_rows(1, 1), Ok(()));
-    assert_eq!(m.swap_columns(5, 5), Err(Refusal::OutOfRange));
+    assert_eq!(m.swap_columns(5, 5), Err(Refusal::Column(Place::First)));
     assert_eq!(m, Matrix2::new(1.0, 2.0, 3.0, 4.0));
 }
 

@@ -1,7 +1,10 @@
-//! Every refusal with its number, the order in which causes are tested, and that nothing is written.
+//! Every refusal with its number, its place and its words, the order in which causes are tested, and that nothing is
+//! written.
 
-use migthumo::{ffi, Matrix2, Matrix3, Matrix4, Refusal, UnknownNumber, VERSION};
-use Refusal::{InputLength, NotWhole, Order, OutOfRange, OutputLength, Singular};
+use migthumo::{ffi, Matrix2, Matrix3, Matrix4, Place, Refusal, UnknownAnswer, VERSION};
+use std::collections::HashSet;
+use Place::{First, Second};
+use Refusal::{Column, InputLength, NotWhole, Order, OutputLength, Row, Singular, Unknown};
 
 /// What an output holds before a call.
 const BEFORE: f64 = 7.5;
@@ -17,58 +20,87 @@ fn refused(length: usize, call: impl FnOnce(&mut [f64]) -> Result<(), Refusal>) 
     refusal
 }
 
+/// Every refusal that the crate knows: what is answered, its number, its place, its words.
+const KNOWN: [(Refusal, u32, u32, Option<Place>, &str); 9] = [
+    (Singular, 2, 2, None, "refusal 2: the determinant compares equal to zero"),
+    (InputLength, 3, 3, None, "refusal 3: an input slice has the wrong length"),
+    (OutputLength, 4, 4, None, "refusal 4: the output slice has the wrong length"),
+    (Order, 5, 5, None, "refusal 5: the order is not one that the operation takes"),
+    (NotWhole, 6, 6, None, "refusal 6: an entry is not a whole number of magnitude at most 1024"),
+    (Column(First), 11, 11, Some(First), "refusal 11: the first column number is not below the order"),
+    (Row(First), 12, 12, Some(First), "refusal 12: the first row number is not below the order"),
+    (Column(Second), 267, 11, Some(Second), "refusal 11: the second column number is not below the order"),
+    (Row(Second), 268, 12, Some(Second), "refusal 12: the second row number is not below the order"),
+];
+
+/// Answers that are none of theirs: 0; 1, which stood for any column or row up to version 1; known numbers with a place
+/// that they don't have; and others.
+const OTHERS: [u32; 14] = [0, 1, 7, 10, 13, 255, 256, 257, 258, 262, 523, 524, 1 << 16, u32::MAX];
+
 #[test]
-fn numbers_and_words() {
-    for number in 1..=6 {
-        let refusal = Refusal::from_number(number).unwrap();
-        assert_eq!(refusal.number(), number);
-        assert!(refusal.to_string().starts_with(&format!("refusal {number}: ")));
+fn numbers_places_and_words() {
+    for (refusal, answer, number, place, words) in KNOWN {
+        assert_eq!((refusal.answer(), refusal.number(), refusal.place()), (answer, number, place));
+        let error: Box<dyn std::error::Error> = Box::new(refusal);
+        assert_eq!(error.to_string(), words);
     }
-    assert_eq!([Refusal::from_number(0), Refusal::from_number(7)], [None; 2]);
-    assert_eq!([OutOfRange, Singular, InputLength].map(Refusal::number), [1, 2, 3]);
-    assert_eq!([OutputLength, Order, NotWhole].map(Refusal::number), [4, 5, 6]);
-    let error: Box<dyn std::error::Error> = Box::new(Singular);
-    assert_eq!(error.to_string(), "refusal 2: the determinant compares equal to zero");
+    assert_eq!([First, Second].map(|place| place.to_string()), ["first", "second"]);
 }
 
 #[test]
-fn numbers_both_ways() {
-    for number in 1..=6 {
-        assert_eq!(Refusal::try_from(number).map(u32::from), Ok(number));
-        assert_eq!(Refusal::try_from(number).ok(), Refusal::from_number(number));
+fn answers_both_ways() {
+    for (refusal, answer, ..) in KNOWN {
+        assert_eq!((Refusal::from_answer(answer), u32::from(refusal)), (Some(refusal), answer));
+        assert_eq!(Refusal::try_from(answer), Ok(refusal));
     }
-    for number in [0, 7, 11, 12, 267, u32::MAX] {
-        let error: UnknownNumber = Refusal::try_from(number).unwrap_err();
-        assert_eq!(error.number(), number);
+    for answer in OTHERS {
+        assert_eq!(Refusal::from_answer(answer), None);
+        let error: UnknownAnswer = Refusal::try_from(answer).unwrap_err();
+        assert_eq!(error.answer(), answer);
         let error: Box<dyn std::error::Error> = Box::new(error);
-        assert_eq!(error.to_string(), format!("{number} is not the number of a refusal, 1 to 6"));
+        assert_eq!(error.to_string(), format!("{answer} is not the answer of a refusal: 2 to 6, 11, 12, 267 or 268"));
     }
 }
 
 #[test]
-fn a_number_that_is_not_known_is_a_value() {
-    let unknown = Refusal::Unknown(267);
-    assert_eq!((unknown.number(), u32::from(unknown)), (267, 267));
-    assert_eq!(unknown.to_string(), "refusal 267: its cause is not known to this crate");
-    assert_ne!(Refusal::Unknown(2), Singular);
+fn an_answer_that_is_not_known_is_a_value() {
+    for answer in OTHERS {
+        let unknown = Unknown(answer);
+        assert_eq!((unknown.answer(), u32::from(unknown)), (answer, answer));
+        assert_eq!((unknown.number(), unknown.place()), (answer & 255, None));
+        assert_eq!(unknown.to_string(), format!("refusal {answer}: its cause is not known to this crate"));
+    }
+    assert_ne!(Unknown(2), Singular);
+}
+
+#[test]
+fn no_two_refusals_read_alike() {
+    let known = KNOWN.map(|(refusal, ..)| refusal);
+    let all: HashSet<Refusal> = known.into_iter().chain((0..1024).map(Unknown)).collect();
+    let texts: HashSet<String> = all.iter().map(Refusal::to_string).collect();
+    assert_eq!((all.len(), texts.len()), (9 + 1024, 9 + 1024));
 }
 
 #[test]
 fn the_version_is_the_one_that_was_built_for() {
-    assert_eq!((ffi::version(), VERSION), (1, 1));
+    assert_eq!((ffi::version(), VERSION), (2, 2));
 }
 
 /// A function of one matrix over slices.
 type OfOne = fn(usize, &[f64], &mut [f64]) -> Result<(), Refusal>;
 
-/// Those functions, each with the count of numbers that it writes for the order 3.
-const OF_ONE: [(OfOne, usize); 10] = [
+/// Those functions, each with the count of numbers that it writes for the order 3. The rows and columns that they name
+/// are not below it.
+const OF_ONE: [(OfOne, usize); 13] = [
     (ffi::determinant, 1),
     (ffi::invert, 9),
     (ffi::transpose, 9),
     (ffi::negate, 9),
     (ffi::diagonal, 3),
     (|order, m, out| ffi::row(order, 9, m, out), 3),
+    (|order, m, out| ffi::swap_rows(order, 9, 9, m, out), 9),
+    (|order, m, out| ffi::swap_columns(order, 9, 9, m, out), 9),
+    (|order, m, out| ffi::swap_elements(order, 9, 9, 9, 9, m, out), 9),
     (|order, m, out| ffi::scale(order, 2.0, m, out), 9),
     (|order, m, out| ffi::divide(order, 2.0, m, out), 9),
     (|order, m, out| ffi::scale_by(order, m, 2.0, out), 9),
@@ -106,7 +138,7 @@ fn each_of_two_inputs_is_tested() {
 #[test]
 fn lengths_before_places_and_zeros() {
     assert_eq!(refused(3, |out| ffi::row(2, 5, &ONES[..4], out)), OutputLength);
-    assert_eq!(refused(2, |out| ffi::row(2, 2, &ONES[..4], out)), OutOfRange);
+    assert_eq!(refused(2, |out| ffi::row(2, 2, &ONES[..4], out)), Row(First));
     assert_eq!(refused(3, |out| ffi::invert(2, &ONES[..4], out)), OutputLength);
     assert_eq!(refused(4, |out| ffi::invert(2, &ONES[..4], out)), Singular);
 }
@@ -115,11 +147,16 @@ fn lengths_before_places_and_zeros() {
 fn swaps_by_value() {
     for order in 2..=4 {
         let (m, length) = (&ONES[..order * order], order * order);
-        assert_eq!(refused(length, |out| ffi::swap_rows(order, 0, order, m, out)), OutOfRange);
-        assert_eq!(refused(length, |out| ffi::swap_rows(order, order, 0, m, out)), OutOfRange);
-        assert_eq!(refused(length, |out| ffi::swap_columns(order, usize::MAX, usize::MAX, m, out)), OutOfRange);
-        for (ac, ar, bc, br) in [(order, 0, 0, 0), (0, order, 0, 0), (0, 0, order, 0), (0, 0, 0, order)] {
-            assert_eq!(refused(length, |out| ffi::swap_elements(order, ac, ar, bc, br, m, out)), OutOfRange);
+        assert_eq!(refused(length, |out| ffi::swap_rows(order, 0, order, m, out)), Row(Second));
+        assert_eq!(refused(length, |out| ffi::swap_rows(order, order, 0, m, out)), Row(First));
+        assert_eq!(refused(length, |out| ffi::swap_columns(order, usize::MAX, usize::MAX, m, out)), Column(First));
+        for (refusal, ac, ar, bc, br) in [
+            (Column(First), order, 0, 0, 0),
+            (Row(First), 0, order, 0, 0),
+            (Column(Second), 0, 0, order, 0),
+            (Row(Second), 0, 0, 0, order),
+        ] {
+            assert_eq!(refused(length, |out| ffi::swap_elements(order, ac, ar, bc, br, m, out)), refusal);
         }
         assert_eq!(refused(length + 1, |out| ffi::swap_rows(order, 0, order, m, out)), OutputLength);
         assert_eq!(refused(length, |out| ffi::swap_columns(order, 0, order, &m[1..], out)), InputLength);
@@ -133,19 +170,24 @@ macro_rules! places {
         #[test]
         fn $name() {
             const OUTSIDE: usize = $Matrix::ORDER;
-            let refused = |call: &dyn Fn(&mut $Matrix) -> Result<(), Refusal>| {
+            let refused = |refusal, call: &dyn Fn(&mut $Matrix) -> Result<(), Refusal>| {
                 let mut m = $Matrix::from_value(3.0);
-                assert_eq!((call(&mut m), m), (Err(OutOfRange), $Matrix::from_value(3.0)));
+                assert_eq!((call(&mut m), m), (Err(refusal), $Matrix::from_value(3.0)));
             };
-            for (a, b) in [(0, OUTSIDE), (OUTSIDE, 0), (OUTSIDE, OUTSIDE), (usize::MAX, usize::MAX)] {
-                refused(&|m| m.swap_rows(a, b));
-                refused(&|m| m.swap_columns(a, b));
-                refused(&|m| m.swap_elements((a, 0), (b, 0)));
-                refused(&|m| m.swap_elements((0, a), (0, b)));
-                refused(&|m| m.swap_elements((a, b), (0, 0)));
-                refused(&|m| m.swap_elements((0, 0), (a, b)));
+            for (place, a, b) in
+                [(Second, 0, OUTSIDE), (First, OUTSIDE, 0), (First, OUTSIDE, OUTSIDE), (First, usize::MAX, usize::MAX)]
+            {
+                refused(Row(place), &|m| m.swap_rows(a, b));
+                refused(Column(place), &|m| m.swap_columns(a, b));
+                refused(Column(place), &|m| m.swap_elements((a, 0), (b, 0)));
+                refused(Row(place), &|m| m.swap_elements((0, a), (0, b)));
             }
-            assert_eq!($Matrix::identity().row(OUTSIDE), Err(OutOfRange));
+            // The column of a place comes before its row, and the first place before the second.
+            refused(Column(First), &|m| m.swap_elements((OUTSIDE, OUTSIDE), (0, 0)));
+            refused(Row(First), &|m| m.swap_elements((0, OUTSIDE), (OUTSIDE, 0)));
+            refused(Column(Second), &|m| m.swap_elements((0, 0), (OUTSIDE, OUTSIDE)));
+            refused(Row(Second), &|m| m.swap_elements((0, 0), (0, OUTSIDE)));
+            assert_eq!($Matrix::identity().row(OUTSIDE), Err(Row(First)));
         }
     };
 }
