@@ -417,7 +417,11 @@ def some_value(program, rng, type_, wholes):
     if type_ in ("Row", "Column"):
         return (type_, {"0": rng.choice([0, 1, 2, 3, 0, 1, 2, 3, 4, 5])})
     if type_ == "Refusal":
-        return ("Refusal::" + rng.choice(["OutOfRange", "Singular", "InputLength", "OutputLength", "Order", "NotWhole"]), {})
+        if rng.random() < 0.5:
+            return ("Refusal::" + rng.choice(["Singular", "InputLength", "OutputLength", "Order", "NotWhole"]), {})
+        return ("Refusal::" + rng.choice(["Column", "Row"]), {"0": some_value(program, rng, "Place", wholes)})
+    if type_ == "Place":
+        return ("Place::" + rng.choice(["First", "Second"]), {})
     if type_.startswith("["):
         inner, _, n = type_[1:-1].rpartition("; ")
         return [some_value(program, rng, inner, wholes) for _ in range(int(n))]
