@@ -25,9 +25,9 @@
  *  - floating point works as a program finds it at its start: rounding to nearest, subnormal numbers kept. A program
  *    linked with -ffast-math may change that.
  *
- * What is not asked: any double may be handed in, NaN and infinities too, and any order, column and row number,
- * since all are tested; and any length that is true of its pointer: one that the order doesn't ask for is refused with 3 or 4,
- * without reading or writing an element. No function allocates, blocks, or keeps a pointer; each may be called from
+ * What is not asked: any double may be handed in, NaN and infinities too, and any order, column and row number, since
+ * all are tested; and any length that is true of its pointer: one that the order doesn't ask for is refused with 3 or
+ * 4, without reading or writing an element. No function allocates, blocks, or keeps a pointer; each may be called from
  * many threads at once.
  *
  * Each operation rounds once, to nearest even; nothing is fused or reordered. Transposes, swaps, rows, diagonals and

@@ -26,8 +26,8 @@ WRONG = {
         "lib.rt Vector{4}::dot": [("summed from the left", "+ (self.y * other.y + (self.z * other.z + self.w * other.w))", "+ self.y * other.y + self.z * other.z + self.w * other.w"), ("one term twice", "self.w * other.w", "self.z * other.z")],
         "lib.rt Vector{3}::div_scalar": [("the scalar multiplied", "self.x / scalar", "self.x * scalar"), ("by the reciprocal, which rounds twice", "self.y / scalar", "self.y * (1.0 / scalar)")],
         "lib.rt Vector{3}::cross": [("one sign turned", "self.y * other.z - self.z", "self.y * other.z + self.z"), ("one entry the other way round", "self.z * other.x - self.x * other.z", "self.x * other.z - self.z * other.x")],
-        "lib.rt Vector{4}::truncate_n": [("two kept entries exchanged", "self.x, self.z, self.w", "self.x, self.w, self.z"), ("11 for 12", "Refusal::Row(Place::First)", "Refusal::Column(Place::First)")],
-        "refusal.rt Refusal::number": [("two causes with one number", "=> 12,", "=> 11,"), ("1, which is retired", "=> 11,", "=> 1,")],
+        "lib.rt Vector{4}::truncate_n": [("two kept entries exchanged", "self.x, self.z, self.w", "self.x, self.w, self.z"), ("11 for 12", "Refusal::Row(Place::First)", "Refusal::Column(Place::First)"), ("another refusal", "Refusal::Row(Place::First)", "Refusal::Singular")],
+        "refusal.rt Refusal::number": [("two causes with one number", "=> 12,", "=> 11,"), ("1, which is retired", "=> 11,", "=> 1,"), ("a number that the table lacks", "=> 6,", "=> 7,")],
         "refusal.rt Refusal::place": [("the place lost", "Refusal::Row(place) => Placed::At(place)", "Refusal::Row(place) => Placed::Nowhere"), ("a place where there is none", "Refusal::NotWhole => Placed::Nowhere", "Refusal::NotWhole => Placed::At(Place::First)")],
     },
     "matrix": {
@@ -52,7 +52,7 @@ WRONG = {
         "places.rt check_columns": [("the first named where the second is wrong", "Place::Second, b)", "Place::First, b)"), ("the second column tested first", "Place::First, a).then(check_column(order, Place::Second, b))", "Place::Second, b).then(check_column(order, Place::First, a))")],
         "places.rt check_elements": [("rows tested before columns", "column.then(row.then(second))", "row.then(column.then(second))"), ("the second place tested first", "column.then(row.then(second))", "second.then(column.then(row))")],
         "places.rt row_of{234}": [("[c][r] read as [r][c]", "m[0][r]", "m[r][0]"), ("the diagonal's entry", "m[1][r]", "m[1][1]")],
-        "places.rt Matrix{234}::row": [("the second named", "Place::First", "Place::Second"), ("always row 0", "r.0)", "0)")],
+        "places.rt Matrix{234}::row": [("the second named", "Place::First", "Place::Second"), ("always row 0", "r.0)", "0)"), ("the range test lets the order pass", "Matrix{n}::ORDER", "Matrix{n}::ORDER + 1")],
         "places.rt Matrix{234}::diagonal": [("an entry beside it", "self.x.x", "self.x.y"), ("two entries exchanged", "self.y.y", "self.x.x")],
         "places.rt Matrix{234}::transpose": [("one entry not moved", "self.y.x", "self.x.y"), ("an entry of the diagonal twice", "self.x.x", "self.y.y")],
         "places.rt Matrix{234}::swap_rows": [("the second number not tested", "ORDER, a, b", "ORDER, a, a"), ("nothing exchanged", "(a.0, b.0)", "(a.0, a.0)")],
@@ -96,7 +96,7 @@ WRONG = {
         "undoable.rt one_bit": [("yes at zero", "== 1", "<= 1"), ("two bits", "== 1", "== 2")],
         "undoable.rt magnitude": [("one too few below zero", "as u64) + 1", "as u64) + 0"), ("zero from zero on", "        z as u64", "        0")],
         "cofactors.rt cofactor{234}": [("the range test at another order", "{n}, c, r", "{n} - 1, c, r"), ("column and row exchanged", "c, r)", "Column(r.0), Row(c.0))")],
-        "cofactors.rt cofactor_answer": [("the row is named second, as of another place", "Refusal::Row(Place::First)", "Refusal::Row(Place::Second)"), ("another place", "c.0, r.0)", "r.0, c.0)")],
+        "cofactors.rt cofactor_answer": [("the row is named second, as of another place", "Refusal::Row(Place::First)", "Refusal::Row(Place::Second)"), ("another place", "c.0, r.0)", "r.0, c.0)"), ("another refusal for the place", "Refusal::Column(Place::First)", "Refusal::NotWhole")],
     },
     "bulk": {
         "lib.rt left_over": [("the quotient", "input % 2", "input / 2"), ("4 for 3", "input % 3", "input % 4")],
@@ -262,7 +262,7 @@ def main():
     rows, bad, tried = list(places()), [], 0
     for crate in wanted:
         subprocess.run(["rt", "check", crate], capture_output=True)
-        for k in range(2):
+        for k in range(1 + max(r[4] for r in rows if r[0] == crate)):
             these = [r for r in rows if r[0] == crate and r[4] == k]
             tried += len(these)
             bad += try_all(crate, k, these)
