@@ -1,5 +1,7 @@
 // Vectors of two, three and four f64: document 01, 'Modules, leaves first', 1.
 // Each answer equals its definition in specs/; no function relies on its caller.
+#![tactic(auto)]
+
 pub mod refusal;
 
 ghost use Rattle.std.specs.Prelude.{◌≡◌};
@@ -13,7 +15,7 @@ pub use refusal::{Place, Placed, Refusal};
 
 // A vector of two numbers.
 #[repr(C)]
-#[derive(Drop)]
+#[derive(Clone, Copy)]
 pub struct Vector2 {
     pub x: f64,
     pub y: f64,
@@ -21,7 +23,7 @@ pub struct Vector2 {
 
 // A vector of three numbers.
 #[repr(C)]
-#[derive(Drop)]
+#[derive(Clone, Copy)]
 pub struct Vector3 {
     pub x: f64,
     pub y: f64,
@@ -30,7 +32,7 @@ pub struct Vector3 {
 
 // A vector of four numbers.
 #[repr(C)]
-#[derive(Drop)]
+#[derive(Clone, Copy)]
 pub struct Vector4 {
     pub x: f64,
     pub y: f64,
@@ -39,21 +41,21 @@ pub struct Vector4 {
 }
 
 // What an operation answers that gives two numbers or refuses.
-#[derive(Drop)]
+#[derive(Clone, Copy)]
 pub enum Vector2Answer {
     Given(Vector2),
     Refused(Refusal),
 }
 
 // What an operation answers that gives three numbers or refuses.
-#[derive(Drop)]
+#[derive(Clone, Copy)]
 pub enum Vector3Answer {
     Given(Vector3),
     Refused(Refusal),
 }
 
 // What an operation answers that gives four numbers or refuses.
-#[derive(Drop)]
+#[derive(Clone, Copy)]
 pub enum Vector4Answer {
     Given(Vector4),
     Refused(Refusal),

@@ -3,21 +3,21 @@ ghost use Rattle.std.specs.Prelude.{◌≡◌};
 ghost use Rattle.vector.specs.Refusals.{means, number_of, place_of};
 
 // Which of the numbers handed in was at fault: the first of its kind, or the second.
-#[derive(Drop)]
+#[derive(Clone, Copy)]
 pub enum Place {
     First,
     Second,
 }
 
 // The place that goes with a cause, or that none does.
-#[derive(Drop)]
+#[derive(Clone, Copy)]
 pub enum Placed {
     At(Place),
     Nowhere,
 }
 
 // Why an answer gives no value.
-#[derive(Drop)]
+#[derive(Clone, Copy)]
 pub enum Refusal {
     // A column number is not below the order.
     Column(Place),
