@@ -1,9 +1,7 @@
 pub mod Answers
 pub mod Arrays
 pub mod Equal
-pub mod InPlace
 pub mod Kept
-pub mod Pairs
 pub mod Ranges
 pub mod Singular
 pub mod Unique

@@ -1,6 +1,6 @@
 -- The test on the determinant: refused exactly where it compares equal to zero.
 -- Assumes nothing.
-use mathlib.Core.Path.{◌≡◌, sym, ap, ◌∙◌}
+use mathlib.Core.Path.{◌≡◌, ap}
 use mathlib.Core.Bool.{true, false}
 use lib.Ieee.{Float, eq}
 use Rattle.vector.specs.Arithmetic.{float0}

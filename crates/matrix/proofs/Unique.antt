@@ -1,8 +1,7 @@
 -- Any two outcomes that a promise allows are equal: each public function of this crate, over its own promise.
 -- Assumes nothing.
-use mathlib.Core.Path.{refl}
 use Rattle.vector.proofs.Answers.{vector2_one, vector3_one, vector4_one}
-use Rattle.vector.proofs.Decided.{Decided, DecidedClauses, value, meaning, meaning_lent}
+use Rattle.vector.proofs.Decided.{Decided, DecidedLent, value, meaning, meaning_lent}
 use Rattle.matrix.proofs.Answers.{matrix2_one, matrix3_one, matrix4_one, swapped_one}
 use Rattle.matrix.proofs.records.Matrix2
 use Rattle.matrix.proofs.records.Matrix3
@@ -179,14 +178,14 @@ matrix4_swap_elements = meaning matrix4_one
 
 -- ---- in_place.rt
 
-pub matrix4_swap_rows_mut : DecidedClauses Matrix4.swap_rows_mut.ended (λ M. Matrix4.swap_rows_mut.clauses) (λ κ s. s.0.now)
-matrix4_swap_rows_mut = record { promise = _; says = λ M 𝓤 𝓛 mem run κ a g x s. refl; decides = meaning_lent swapped_one }
+pub matrix4_swap_rows_mut : DecidedLent Matrix4.swap_rows_mut.Reads.Learnt (λ κ s. s.0.now)
+matrix4_swap_rows_mut = meaning_lent swapped_one
 
-pub matrix4_swap_columns_mut : DecidedClauses Matrix4.swap_columns_mut.ended (λ M. Matrix4.swap_columns_mut.clauses) (λ κ s. s.0.now)
-matrix4_swap_columns_mut = record { promise = _; says = λ M 𝓤 𝓛 mem run κ a g x s. refl; decides = meaning_lent swapped_one }
+pub matrix4_swap_columns_mut : DecidedLent Matrix4.swap_columns_mut.Reads.Learnt (λ κ s. s.0.now)
+matrix4_swap_columns_mut = meaning_lent swapped_one
 
-pub matrix4_swap_elements_mut : DecidedClauses Matrix4.swap_elements_mut.ended (λ M. Matrix4.swap_elements_mut.clauses) (λ κ s. s.0.now)
-matrix4_swap_elements_mut = record { promise = _; says = λ M 𝓤 𝓛 mem run κ a g x s. refl; decides = meaning_lent swapped_one }
+pub matrix4_swap_elements_mut : DecidedLent Matrix4.swap_elements_mut.Reads.Learnt (λ κ s. s.0.now)
+matrix4_swap_elements_mut = meaning_lent swapped_one
 
 -- ---- arithmetic.rt
 

@@ -11,7 +11,7 @@ use crate::records::{Matrix4, Matrix4Answer};
 use vector::Refusal;
 
 // What a swap of a lent matrix answers.
-#[derive(Drop)]
+#[derive(Clone, Copy)]
 pub enum Swapped {
     Done,
     Refused(Refusal),

@@ -19,15 +19,15 @@ use vector::{
 };
 
 // A column's number, counted from 0.
-#[derive(Drop)]
+#[derive(Clone, Copy)]
 pub struct Column(pub usize);
 
 // A row's number, counted from 0.
-#[derive(Drop)]
+#[derive(Clone, Copy)]
 pub struct Row(pub usize);
 
 // What a range test finds.
-#[derive(Drop)]
+#[derive(Clone, Copy)]
 pub(crate) enum Checked {
     Within,
     Outside(Refusal),

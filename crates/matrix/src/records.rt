@@ -14,7 +14,7 @@ use vector::{Refusal, Vector2, Vector3, Vector4};
 
 // A matrix of order 2, as its columns.
 #[repr(C)]
-#[derive(Drop)]
+#[derive(Clone, Copy)]
 pub struct Matrix2 {
     // Column 0.
     pub x: Vector2,
@@ -24,7 +24,7 @@ pub struct Matrix2 {
 
 // A matrix of order 3, as its columns.
 #[repr(C)]
-#[derive(Drop)]
+#[derive(Clone, Copy)]
 pub struct Matrix3 {
     // Column 0.
     pub x: Vector3,
@@ -36,7 +36,7 @@ pub struct Matrix3 {
 
 // A matrix of order 4, as its columns.
 #[repr(C)]
-#[derive(Drop)]
+#[derive(Clone, Copy)]
 pub struct Matrix4 {
     // Column 0.
     pub x: Vector4,
@@ -49,21 +49,21 @@ pub struct Matrix4 {
 }
 
 // What an operation answers that gives a matrix of order 2 or refuses.
-#[derive(Drop)]
+#[derive(Clone, Copy)]
 pub enum Matrix2Answer {
     Given(Matrix2),
     Refused(Refusal),
 }
 
 // What an operation answers that gives a matrix of order 3 or refuses.
-#[derive(Drop)]
+#[derive(Clone, Copy)]
 pub enum Matrix3Answer {
     Given(Matrix3),
     Refused(Refusal),
 }
 
 // What an operation answers that gives a matrix of order 4 or refuses.
-#[derive(Drop)]
+#[derive(Clone, Copy)]
 pub enum Matrix4Answer {
     Given(Matrix4),
     Refused(Refusal),

@@ -1,0 +1,13 @@
+-- The test on the determinant decides between the refusal and the inverse that the callees answered. Assumes nothing.
+use Rattle.matrix.proofs.Singular.{refused_singular, inverted}
+use Rattle.matrix.proofs.records.Matrix4.invert.Goals as goal
+
+pub returns-then-det : goal.returns-then-det
+returns-then-det c = refused_singular _ _ c.determinant-det.ensures _ c.if-det.true
+
+pub returns : goal.returns
+returns c =
+    let det = c.determinant-det.ensures in
+    inverted _ _ det c.if-det.false
+    (rw
+    (c.from_cols.ensures, c.inverse_column.ensures, c.inverse_column-2.ensures, c.inverse_column-3.ensures, c.inverse_column-4.ensures, c.transpose-t.ensures, det))
