@@ -12,7 +12,7 @@ use Rattle.whole.specs.Order.{All, Distinct, joined}
 
 -- ---- properties of all members
 -- what holds of all members holds of each
-pub all_at : {A : Type 0} (P : A → Type 0) {l : List A} {x : A} → All P l → Memᴰ x l → P x
+pub all_at : {A : Type 0} (P : A → Type 0) {x : A} {l : List A} → All P l → Memᴰ x l → P x
 all_at P h (Memᴰ.head e) = subst P (sym e) h.0
 all_at P h (Memᴰ.tail m) = all_at P h.1 m
 

@@ -2,7 +2,7 @@
 -- Assumes nothing.
 use mathlib.Core.Path.{◌≡◌, refl, sym, ap, ◌∙◌}
 use Prim.Native.Nat.{ℕ, zero, suc, ◌+◌, ◌*◌}
-use native.Mathlib.Nat.{zero-add, suc-add, one_mul as natural-one-mul}
+use native.Mathlib.Nat.{zero-add, suc-add, one-mul as natural_one_mul}
 use native.Mathlib.Omega.{arith}
 use lib.IntN.{ℤ, pos, neg_ℤ, ◌*ℤ◌, nat_abs}
 use Rattle.whole.proofs.Ring.{one_mul, neg_mul, neg_mul_neg, abs_neg, abs_mul, NonZero}
@@ -29,4 +29,4 @@ parity_nonzero k = omega (arith, parity_abs k)
 
 -- a parity as a factor leaves the magnitude
 pub parity_keeps : (k : ℕ) (z : ℤ) → nat_abs (parity k *ℤ z) ≡ nat_abs z
-parity_keeps k z = abs_mul (parity k) z ∙ ap (λ (n : ℕ). n * nat_abs z) (parity_abs k) ∙ natural-one-mul (nat_abs z)
+parity_keeps k z = abs_mul (parity k) z ∙ ap (λ (n : ℕ). n * nat_abs z) (parity_abs k) ∙ natural_one_mul (nat_abs z)
