@@ -3,7 +3,7 @@
 use mathlib.Core.Path.{◌≡◌, sym, ap, ◌∙◌, subst, subst₂}
 use mathlib.Core.Bool.{Bool, true, false, cond}
 use Prim.Native.Nat.{ℕ, zero, suc, ◌+◌, ◌*◌, ◌^◌, ◌≤◌, ◌<◌}
-use native.Mathlib.Nat.{mul-pos, mul_one as one_factor, zero-lt-suc, zero-mul, zero-add, le_trans, le-add_left}
+use native.Mathlib.Nat.{mul-pos, mul-one as one_factor, zero-lt-suc, zero-mul, zero-add, le_trans, le-add_left}
 use lib.Dec.{eqb, eqb-suc-zero}
 use lib.IntN.{ℤ, pos, ◌*ℤ◌, nat_abs, zero-*ℤ, *ℤ_comm}
 use lib.Pow.{pow-add, pow_pos}
