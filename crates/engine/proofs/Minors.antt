@@ -1,6 +1,6 @@
 -- The minors: the numbers other than one, a matrix without a column and a row, the sign of a place, and how large a minor is.
 -- Assumes nothing.
-use Rattle.std.proofs.Common.{◌≡◌, ℕ, zero, suc, ◌+◌, ◌-◌, ◌*◌, ◌%◌, ◌^◌, ◌<◌, ◌≤◌, List, [], ◌∷◌, get_or, ℤ, pos, negsuc, ◌+ℤ◌, ◌-ℤ◌, ◌*ℤ◌, neg_ℤ, nat_abs, sym, refl, ap, ◌∙◌, subst, ap₂, suc-le-suc, le_trans, lt_of_lt_of_le, le_of_suc-le-suc, not-suc-le-zero, mul-le-mul, arith, lit<, w64, SFits, to_z, of_z}
+use Rattle.std.proofs.Common.{◌≡◌, ℕ, zero, suc, ◌+◌, ◌-◌, ◌*◌, ◌%◌, ◌^◌, ◌<◌, ◌≤◌, List, [], ◌∷◌, get_or, ℤ, pos, negsuc, ◌-ℤ◌, ◌*ℤ◌, neg_ℤ, nat_abs, sym, refl, ap, ◌∙◌, subst, ap₂, suc-le-suc, le_trans, lt_of_lt_of_le, le_of_suc-le-suc, not-suc-le-zero, mul-le-mul, arith, lit<, w64, SFits, to_z, of_z}
 use lib.IntN.{neg_ℤ-neg_ℤ, +ℤ_idl}
 use Rattle.whole.specs.Matrix.{Matrix}
 use Rattle.whole.specs.Order.{parity, skip, signed_sum_lem}

@@ -1,5 +1,8 @@
 // The exact engine over whole numbers: document 01, 'Modules, leaves first', 7.
 // Each answer equals its definition in specs/; no public function relies on its caller.
+
+#![tactic(auto)]
+
 pub mod answers;
 pub mod cofactors;
 pub mod entries;

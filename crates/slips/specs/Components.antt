@@ -1,6 +1,6 @@
 -- Document 02, No. 2, 'Read component records': a reader with one slip in it, and the bytes at which it parts from the definition of `component`.
 -- Each follows the text of the right definition, in component/specs, but for the slip. Assumes nothing.
-use Rattle.std.specs.Prelude.{ℕ, ◌+◌, ◌-◌, ◌*◌, ◌%◌, ◌^◌, cond, List, [], ◌∷◌, leb, eqb, length, ℤ, pos, Float}
+use Rattle.std.specs.Prelude.{ℕ, ◌+◌, ◌-◌, ◌%◌, ◌^◌, cond, List, [], ◌∷◌, leb, eqb, length, ℤ, pos, Float}
 use Rattle.std.specs.Float.{binary64}
 use Rattle.std.specs.Float.Ieee.{of_int}
 use Rattle.vector.specs.Arithmetic.{◌⊘◌, float0, float1}
