@@ -171,7 +171,7 @@ UndoableExactly p limit = (m : p.Matrix) → (undoable limit p.order (p.entries 
 abbrev pub WhereUndoable : Port → ℕ → ℕ → Type 0
 WhereUndoable p limit vectors = (m : p.Matrix) → undoable limit p.order (p.entries m) ≡ given true → HasExactInverse p vectors (numbers (p.entries m)) m
 
--- 5. the sum is zero exactly if no whole A and no nonzero k have M-as-A = k·identity, M being the matrix's own whole entries
+-- 5. the sum is zero exactly if no whole A and no nonzero k have M·A = k·identity, M being the matrix's own whole entries
 abbrev pub ZeroExactly : Port → ℕ → Type 0
 ZeroExactly p limit = (m : p.Matrix) → WholeEntries p limit m → ZeroExactlyIf p.order (numbers (p.entries m))
 
