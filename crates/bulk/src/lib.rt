@@ -1,5 +1,7 @@
 // Bulk moves over lent slices: document 01, 'Modules, leaves first', 8.
 // Every outcome of the two entries, and the whole output, equals its definition in specs/; neither relies on its caller.
+#![tactic(auto)]
+
 mod load;
 mod points;
 mod vectors;
@@ -12,7 +14,7 @@ ghost use Rattle.bulk.specs.Moves.{move_vectors, move_points};
 use vector::Refusal;
 
 // What a bulk move answers.
-#[derive(Drop)]
+#[derive(Clone, Copy)]
 pub enum Moved {
     Done,
     Refused(Refusal),

@@ -1,0 +1,13 @@
+-- A turn writes the matrix times the vector at i. Assumes nothing.
+use Prim.Native.Nat.{◌-◌}
+use lib.Dec.{lit<}
+use lib.ListN.{length}
+use Rattle.bulk.specs.Moves.{vector_by2}
+use Rattle.bulk.proofs.Groups.{SoFar}
+use Rattle.bulk.proofs.vectors.move_each2.Given as goal
+
+abbrev pub invariant-loop-i : goal.invariant-loop-i
+invariant-loop-i l = SoFar 2 (lit< tt) (vector_by2 l.m) l.vectors l.output l.i
+
+abbrev pub decreases-loop-i : goal.decreases-loop-i
+decreases-loop-i l = length l.vectors - l.i
