@@ -4,7 +4,7 @@ use Rattle.std.proofs.Common.{◌≡◌, ℕ, zero, suc, ◌+◌, ◌*◌, ◌%�
 use lib.Ieee.{Float, Format, prec, low, mul, div}
 use lib.Ieee.Fits.{and_l, and_r}
 use Rattle.whole.specs.Matrix.{Matrix}
-use Rattle.whole.specs.Order.{parity, skip, signed_sum_lem}
+use Rattle.whole.specs.Order.{parity, skip, exact_signed_sum}
 use Rattle.whole.proofs.Formula.{Formula, var, con, ◌⊕◌, ◌⊖◌, ◌⊗◌, ⊝, in_whole, alike, same, at, bound}
 use Rattle.whole.proofs.Expansion.{without}
 use Rattle.whole.proofs.Adjugate.{adjugate}
@@ -115,8 +115,8 @@ module _ (f : Format) (n B D : ℕ) (C : ℕ → ℕ → Formula) (small : D < 2
   minor_test c r = alike (C c r) (minor_formula n r c) && sized c r
 
   -- a matrix, and a determinant that is plus or minus 2 ^ k
-  module _ (e : Floats) (M : Matrix) (holds : Holds (suc n) B e M) (k : ℕ) (power : nat_abs (signed_sum_lem (suc n) M) ≡ 2 ^ k)
-      (det : Float) (b : ℕ) (det-known : Known det (signed_sum_lem (suc n) M) 0 b) (det-small : b < 2 ^ prec f) where
+  module _ (e : Floats) (M : Matrix) (holds : Holds (suc n) B e M) (k : ℕ) (power : nat_abs (exact_signed_sum (suc n) M) ≡ 2 ^ k)
+      (det : Float) (b : ℕ) (det-known : Known det (exact_signed_sum (suc n) M) 0 b) (det-small : b < 2 ^ prec f) where
     -- the formula at a place
     abbrev formula : ℕ → ℕ → Float
     formula c r = in_float f (column_wise (suc n) e) (C c r)
@@ -129,7 +129,7 @@ module _ (f : Format) (n B D : ℕ) (C : ℕ → ℕ → Formula) (small : D < 2
         subst (λ (z : ℤ). Known (formula c r) z 0 D) is (known_within (leb→le _ D (and_r p q t)) (over_entries f (suc n) B (zero-lt-suc n) e M holds (C c r) (and_l p q t)))
 
     -- divided by the determinant
-    pub divided : T (all_places (suc n) cofactor_test) → (c r : ℕ) → c < suc n → r < suc n → Known (div f (formula c r) det) (numerators (suc n) (sign_of (signed_sum_lem (suc n) M)) M c r) k D
+    pub divided : T (all_places (suc n) cofactor_test) → (c r : ℕ) → c < suc n → r < suc n → Known (div f (formula c r) det) (numerators (suc n) (sign_of (exact_signed_sum (suc n) M)) M c r) k D
     divided test c r h l =
         let t = (all_places_lem (suc n) cofactor_test).0 test c r h l in
         let like = alike (C c r) (con (parity r *ℤ parity c) ⊗ minor_formula n r c) in
@@ -139,10 +139,10 @@ module _ (f : Format) (n B D : ℕ) (C : ℕ → ℕ → Formula) (small : D < 2
 
     -- times the sign, times the reciprocal of the determinant
     pub times_reciprocal : (one : Float) → Exact one (pos 1) 0 → (sign : ℕ → ℕ → Float) → ((c r : ℕ) → c < suc n → r < suc n → Known (sign c r) (parity r *ℤ parity c) 0 1)
-        → T (all_places (suc n) minor_test) → (c r : ℕ) → c < suc n → r < suc n → Known (mul f (mul f (formula c r) (sign c r)) (div f one det)) (numerators (suc n) (sign_of (signed_sum_lem (suc n) M)) M c r) k D
+        → T (all_places (suc n) minor_test) → (c r : ℕ) → c < suc n → r < suc n → Known (mul f (mul f (formula c r) (sign c r)) (div f one det)) (numerators (suc n) (sign_of (exact_signed_sum (suc n) M)) M c r) k D
     times_reciprocal one one-is sign sign_known test c r h l =
         let t = (all_places_lem (suc n) minor_test).0 test c r h l in
         let like = alike (C c r) (minor_formula n r c) in
-        let minor = sized_known c r (and_r like (sized c r) t) (signed_sum_lem n (without r c M)) (written_minor n (C c r) r c (le_of_suc-le-suc h) (and_l like (sized c r) t) M) in
+        let minor = sized_known c r (and_r like (sized c r) t) (exact_signed_sum n (without r c M)) (written_minor n (C c r) r c (le_of_suc-le-suc h) (and_l like (sized c r) t) M) in
         three_factors f minor (sign_known c r h l) (known_reciprocal f k one-is det-known power det-small) small
         (power_low f k (lt_of_le_of_lt (le_trans (le_of_eq (sym power)) det-known.within) det-small))

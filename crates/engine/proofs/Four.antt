@@ -10,7 +10,7 @@ use Rattle.matrix.specs.Inverse.{det3, det_sub_proc, det4, sign, cofactor, inver
 use Rattle.vector.specs.declared.Vector4.{Vector4}
 use Rattle.matrix.specs.declared.records.Matrix4.{Matrix4}
 use Rattle.whole.specs.Matrix.{Matrix, δ}
-use Rattle.whole.specs.Order.{parity, signed_sum_lem}
+use Rattle.whole.specs.Order.{parity, exact_signed_sum}
 use Rattle.whole.proofs.Formula.{in_whole, bound}
 use Rattle.whole.proofs.Inverse.{numerators, moved}
 use Rattle.whole.proofs.Written.{entries}
@@ -83,7 +83,7 @@ written = record {
   inverse = inverse4;
   invert_is = λ m. refl;
   inverse_known = λ m M holds k power det det-known c r h l.
-      subst (λ (x : Float). Known x (numerators 4 (sign_of (signed_sum_lem 4 M)) M c r) k largest) (sym (inverse_is m det c r h l))
+      subst (λ (x : Float). Known x (numerators 4 (sign_of (exact_signed_sum 4 M)) M c r) k largest) (sym (inverse_is m det c r h l))
       (times_reciprocal binary64 3 1024 largest minor4 (lit< tt) (floats4 m) M holds k power det (bound (λ i. 1024) sum4) det-known (lit< tt) float1 (exact_one binary64) sign sign_known tt c r h l);
 }
 
@@ -110,7 +110,7 @@ module _ (m : Matrix4) (whole : WholeEntries port4 1024 m) (q : PowerOfTwo (sum_
   M = numbers (floats4 m)
 
   abbrev X : Matrix
-  X = numerators 4 (sign_of (signed_sum_lem 4 M)) M
+  X = numerators 4 (sign_of (exact_signed_sum 4 M)) M
 
   abbrev Q : ℕ → ℤ
   Q i = whole_number (entry (entries4 v) i)

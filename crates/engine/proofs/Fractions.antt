@@ -4,7 +4,7 @@ use Rattle.std.proofs.Common.{◌≡◌, ℕ, zero, suc, ◌-◌, ◌^◌, ◌<�
 use mathlib.Core.Path.{fun_ext}
 use lib.Ieee.{Float}
 use Rattle.whole.specs.Matrix.{Matrix, times, IsMultiple}
-use Rattle.whole.specs.Order.{parity, signed_sum_lem}
+use Rattle.whole.specs.Order.{parity, exact_signed_sum}
 use Rattle.whole.proofs.Ring.{mul_cancel}
 use Rattle.whole.proofs.Expansion.{without}
 use Rattle.whole.proofs.Adjugate.{adjugate, adjugate_left, adjugate_right}
@@ -21,7 +21,7 @@ use Rattle.engine.specs.Demand.{ExactFraction}
 cofactors_adjugate : (n : ℕ) (m : Matrix) → adjugate (suc n) m ≡ (λ (c r : ℕ). cofactor_of (suc n) m r c)
 cofactors_adjugate n m =
     let less : n ≡ suc n - 1 = omega arith in
-    fun_ext (λ c. fun_ext (λ r. ap (λ (k : ℕ). parity r *ℤ parity c *ℤ signed_sum_lem k (without r c m)) less))
+    fun_ext (λ c. fun_ext (λ r. ap (λ (k : ℕ). parity r *ℤ parity c *ℤ exact_signed_sum k (without r c m)) less))
 
 -- entry by entry, for every order above 0
 pub adjugate_cofactor : (n : ℕ) → 0 < n → (m : Matrix) (c r : ℕ) → adjugate n m c r ≡ cofactor_of n m r c
@@ -32,8 +32,8 @@ adjugate_cofactor (suc n) some m c r = ap (λ (a : Matrix). a c r) (cofactors_ad
 pub cofactors_over_sum : (n : ℕ) → 0 < n → (m : Matrix) → CofactorsOverSum n m
 cofactors_over_sum zero some m = absurd (lt_irrefl 0 some)
 cofactors_over_sum (suc n) some m = (
-  subst (λ (a : Matrix). IsMultiple (suc n) (times (suc n) m a) (signed_sum_lem (suc n) m)) (cofactors_adjugate n m) (adjugate_right (suc n) m),
-  subst (λ (a : Matrix). IsMultiple (suc n) (times (suc n) a m) (signed_sum_lem (suc n) m)) (cofactors_adjugate n m) (adjugate_left (suc n) m),
+  subst (λ (a : Matrix). IsMultiple (suc n) (times (suc n) m a) (exact_signed_sum (suc n) m)) (cofactors_adjugate n m) (adjugate_right (suc n) m),
+  subst (λ (a : Matrix). IsMultiple (suc n) (times (suc n) a m) (exact_signed_sum (suc n) m)) (cofactors_adjugate n m) (adjugate_left (suc n) m),
 )
 
 -- ---- floats that are exactly a fraction

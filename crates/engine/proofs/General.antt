@@ -8,7 +8,7 @@ use Rattle.vector.specs.declared.refusal.Refusal.TheVariants.{NotWhole}
 use Rattle.matrix.specs.Inverse.{nonzero}
 use Rattle.matrix.proofs.Singular as singular
 use Rattle.whole.specs.Matrix.{Matrix, δ}
-use Rattle.whole.specs.Order.{signed_sum_lem}
+use Rattle.whole.specs.Order.{exact_signed_sum}
 use Rattle.whole.proofs.Formula.{Formula, in_whole, alike, bound}
 use Rattle.whole.proofs.Inverse.{numerators, moved}
 use Rattle.whole.proofs.Written.{signed_formula, entry, entries}
@@ -50,8 +50,8 @@ pub record Written (p : Port) (B D E : ℕ) (d F G : Formula) : Type 0 where
   pub identity_is : (c r : ℕ) → c < p.order → r < p.order → Exact (p.entries p.identity c r) (δ c r) 0
   pub inverse : p.Matrix → Float → p.Matrix
   pub invert_is : (m : p.Matrix) → p.invert m ≡ after (nonzero (p.determinant m)) (given (inverse m (p.determinant m)))
-  pub inverse_known : (m : p.Matrix) (M : Matrix) → Holds p.order B (p.entries m) M → (k : ℕ) → nat_abs (signed_sum_lem p.order M) ≡ 2 ^ k → (det : Float) → Known det (signed_sum_lem p.order M) 0 (bound (λ i. B) d)
-      → (c r : ℕ) → c < p.order → r < p.order → Known (p.entries (inverse m det) c r) (numerators p.order (sign_of (signed_sum_lem p.order M)) M c r) k D
+  pub inverse_known : (m : p.Matrix) (M : Matrix) → Holds p.order B (p.entries m) M → (k : ℕ) → nat_abs (exact_signed_sum p.order M) ≡ 2 ^ k → (det : Float) → Known det (exact_signed_sum p.order M) 0 (bound (λ i. B) d)
+      → (c r : ℕ) → c < p.order → r < p.order → Known (p.entries (inverse m det) c r) (numerators p.order (sign_of (exact_signed_sum p.order M)) M c r) k D
 
 -- ---- refusals
 
@@ -130,7 +130,7 @@ module _ (p : Port) (B D E : ℕ) (d F G : Formula) (w : Written p B D E d F G) 
 
     -- the inverse's numerators over that power of two
     abbrev X : Matrix
-    X = numerators n (sign_of (signed_sum_lem n M)) M
+    X = numerators n (sign_of (exact_signed_sum n M)) M
 
     -- the power of two is none too large
     fine : q.0 ≤ low binary64

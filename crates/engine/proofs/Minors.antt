@@ -3,7 +3,7 @@
 use Rattle.std.proofs.Common.{◌≡◌, ℕ, zero, suc, ◌+◌, ◌-◌, ◌*◌, ◌%◌, ◌^◌, ◌<◌, ◌≤◌, List, [], ◌∷◌, get_or, ℤ, pos, negsuc, ◌-ℤ◌, ◌*ℤ◌, neg_ℤ, nat_abs, sym, refl, ap, ◌∙◌, subst, ap₂, suc-le-suc, le_trans, lt_of_lt_of_le, le_of_suc-le-suc, not-suc-le-zero, mul-le-mul, arith, lit<, w64, SFits, to_z, of_z}
 use lib.IntN.{neg_ℤ-neg_ℤ, +ℤ_idl}
 use Rattle.whole.specs.Matrix.{Matrix}
-use Rattle.whole.specs.Order.{parity, skip, signed_sum_lem}
+use Rattle.whole.specs.Order.{parity, skip, exact_signed_sum}
 use Rattle.whole.proofs.Ring.{one_mul, neg_mul, abs_neg}
 use Rattle.whole.proofs.Parity.{parity_add}
 use Rattle.whole.proofs.Skip.{skip_le}
@@ -69,10 +69,10 @@ module _ (n : ℕ) (few : n ≤ 4) (m w : Matrix) (c r : ℕ) (hc : c < n) (hr :
 
   -- the minor
   abbrev minor : ℤ
-  minor = signed_sum_lem (n - 1) w
+  minor = exact_signed_sum (n - 1) w
 
   -- it is that of m
-  minor_is : minor ≡ signed_sum_lem (n - 1) (λ d s. m (skip c d) (skip r s))
+  minor_is : minor ≡ exact_signed_sum (n - 1) (λ d s. m (skip c d) (skip r s))
   minor_is = signed_sum_ext (n - 1) w (λ d s. m (skip c d) (skip r s)) inner
 
   -- it is at most 24 * 2 ^ 40

@@ -2,7 +2,7 @@
 -- Assumes nothing.
 use Rattle.std.proofs.Common.{◌≡◌, ℕ, ◌^◌, ◌<◌, T, nat_abs, ap, ◌∙◌, subst₂, lt_of_lt_of_le, lt_of_le_of_lt, lit≤}
 use Rattle.whole.specs.Matrix.{Matrix}
-use Rattle.whole.specs.Order.{signed_sum_lem}
+use Rattle.whole.specs.Order.{exact_signed_sum}
 use Rattle.whole.proofs.Expansion.{signed_sum_ext}
 use Rattle.exact.proofs.Integers.{exact_truncation}
 use Rattle.engine.specs.Whole.{Floats, whole_entries, numbers}
@@ -24,15 +24,15 @@ module _ (limit n : ℕ) (e : Floats) (w : Matrix) (small : limit < 2 ^ 53) (hol
   numbers_held c r h l = let known = holds c r h l in exact_truncation 63 known.exact (lt_of_le_of_lt known.within (lt_of_lt_of_le small (lit≤ tt)))
 
   -- and so is their sum
-  pub sum_held : signed_sum_lem n (numbers e) ≡ signed_sum_lem n w
+  pub sum_held : exact_signed_sum n (numbers e) ≡ exact_signed_sum n w
   sum_held = signed_sum_ext n (numbers e) w numbers_held
 
 -- where one bit of the sum of w is set, a matrix that holds w has an inverse, which undoes it and is the exact inverse of w
-pub where_held : (p : Port) (limit vectors : ℕ) → Demand p limit vectors → 0 < p.order → limit < 2 ^ 53 → (m : p.Matrix) (w : Matrix) → Holds p.order limit (p.entries m) w → T (is_one_bit (nat_abs (signed_sum_lem p.order w))) → HasExactInverse p vectors w m
+pub where_held : (p : Port) (limit vectors : ℕ) → Demand p limit vectors → 0 < p.order → limit < 2 ^ 53 → (m : p.Matrix) (w : Matrix) → Holds p.order limit (p.entries m) w → T (is_one_bit (nat_abs (exact_signed_sum p.order w))) → HasExactInverse p vectors w m
 where_held p limit vectors d some small m w holds bit =
     let n = p.order in
     let e = p.entries m in
     let sum = sum_held limit n e w small holds in
-    let power = (one_bit (nat_abs (signed_sum_lem n w))).0 bit in
+    let power = (one_bit (nat_abs (exact_signed_sum n w))).0 bit in
     let found = d.where_undoable m ((d.undoable_exactly m).1 (taken_held limit n e w small holds, (power.0, ap nat_abs sum ∙ power.1))) in
     (found.0, found.1, found.2, λ c r h l. subst₂ (ExactFraction (p.entries found.0 c r)) (cofactor_ext n some (numbers e) w (numbers_held limit n e w small holds) r c l h) sum (found.3 c r h l))

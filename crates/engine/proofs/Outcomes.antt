@@ -17,7 +17,7 @@ use Rattle.matrix.specs.declared.records.Matrix2.{Matrix2}
 use Rattle.matrix.specs.declared.records.Matrix3.{Matrix3}
 use Rattle.matrix.specs.declared.records.Matrix4.{Matrix4}
 use Rattle.whole.specs.Matrix.{Matrix}
-use Rattle.whole.specs.Order.{signed_sum_lem}
+use Rattle.whole.specs.Order.{exact_signed_sum}
 use Rattle.whole.proofs.Expansion.{signed_sum_ext, cofactor_ext as expansion_cofactor_ext}
 use Rattle.engine.specs.Whole.{whole_number, is_whole, Floats, whole_entries, numbers, floats2, floats3, floats4, wholes, Small}
 use Rattle.vector.specs.declared.refusal.Refusal.{Refusal}
@@ -107,7 +107,7 @@ entries3 m c r h l =
     c h
 
 -- so the signed sum is the matrix's
-pub corner_sum : (n : ℕ) (e d : Floats) → Alike n e d → signed_sum_lem n (numbers e) ≡ signed_sum_lem n (numbers d)
+pub corner_sum : (n : ℕ) (e d : Floats) → Alike n e d → exact_signed_sum n (numbers e) ≡ exact_signed_sum n (numbers d)
 corner_sum n e d same = signed_sum_ext n (numbers e) (numbers d) (λ c r h l. ap whole_number (same c r h l))
 
 -- an outcome with another check and another value

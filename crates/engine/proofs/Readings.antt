@@ -5,7 +5,7 @@ use lib.Ieee.{Float, Format, low}
 use lib.Ieee.Fits.{and_l, and_r}
 use Rattle.whole.specs.Sum.{sum}
 use Rattle.whole.specs.Matrix.{Matrix}
-use Rattle.whole.specs.Order.{signed_sum_lem}
+use Rattle.whole.specs.Order.{exact_signed_sum}
 use Rattle.whole.proofs.Formula.{Formula, var, ◌⊗◌, in_whole, alike, same, bound}
 use Rattle.whole.proofs.Sum.{sum_ext}
 use Rattle.whole.proofs.Written.{sum_formula, sum_formula_is, signed_formula, entry, entries, written_entries}
@@ -43,7 +43,7 @@ module _ (f : Format) (n B : ℕ) (some : 0 < n) (e : Floats) (M : Matrix) (hold
   entry_steps = whole_steps f (n * n) (λ i. B) (column_wise n e) (entries n M) variables
 
   -- one that multiplies out as the signed sum does is the signed sum
-  pub over_sum : (d : Formula) → T (alike d (signed_formula n (entry n))) → T (entry_test f n B d) → Known (in_float f (column_wise n e) d) (signed_sum_lem n M) 0 (bound (λ i. B) d)
+  pub over_sum : (d : Formula) → T (alike d (signed_formula n (entry n))) → T (entry_test f n B d) → Known (in_float f (column_wise n e) d) (exact_signed_sum n M) 0 (bound (λ i. B) d)
   over_sum d like test =
       subst (λ (z : ℤ). Known (in_float f (column_wise n e) d) z 0 (bound (λ i. B) d)) (written_entries n d like M) (over_entries d test)
 

@@ -7,7 +7,7 @@ use lib.ListN.{get_or-map}
 use lib.IntN.{+ℤ_idr}
 use Rattle.whole.specs.Sum.{sum_over}
 use Rattle.whole.specs.Matrix.{Matrix}
-use Rattle.whole.specs.Order.{Order, inversions, down_rows, orders, signed_sum_lem}
+use Rattle.whole.specs.Order.{Order, inversions, down_rows, orders, exact_signed_sum}
 use Rattle.whole.specs.Claim.{columns, factorial, part, table_sum, RightSign}
 use Rattle.whole.proofs.Parity.{parity_abs}
 use Rattle.whole.proofs.Lists.{all_at, all_get_d, all_of}
@@ -34,7 +34,7 @@ unfolding rows
 all_held = orders_held 4 (le_refl 4)
 
 -- and their sum is the signed sum
-pub rows_total : (n : ℕ) → n ≤ 4 → (m : Matrix) → table_sum m (part n table) ≡ signed_sum_lem n m
+pub rows_total : (n : ℕ) → n ≤ 4 → (m : Matrix) → table_sum m (part n table) ≡ exact_signed_sum n m
 rows_total = part_total 4 table passes
 
 -- ---- one turn of the loop
@@ -55,7 +55,7 @@ unfolding rows
 rows_count = up_to_four (λ n. length (part n table) ≡ factorial n) refl refl refl refl refl
 
 -- the sum over all of them
-pub all_rows : (n : ℕ) → n ≤ 4 → (m : Matrix) (k : ℕ) → k ≡ factorial n → table_sum m (take k (part n table)) ≡ signed_sum_lem n m
+pub all_rows : (n : ℕ) → n ≤ 4 → (m : Matrix) (k : ℕ) → k ≡ factorial n → table_sum m (take k (part n table)) ≡ exact_signed_sum n m
 all_rows n few m k all =
     ap (table_sum m) (take_all k (part n table) (le_of_eq (rows_count n few ∙ sym all))) ∙ rows_total n few m
 

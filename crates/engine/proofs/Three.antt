@@ -8,7 +8,7 @@ use Rattle.matrix.specs.Arithmetic.{mul3, mul_vector3}
 use Rattle.matrix.specs.Inverse.{det3, inverse3}
 use Rattle.matrix.specs.declared.records.Matrix3.{Matrix3}
 use Rattle.whole.specs.Matrix.{δ}
-use Rattle.whole.specs.Order.{signed_sum_lem}
+use Rattle.whole.specs.Order.{exact_signed_sum}
 use Rattle.whole.proofs.Formula.{bound}
 use Rattle.whole.proofs.Inverse.{numerators}
 use Rattle.exact.specs.Value.{Exact}
@@ -61,7 +61,7 @@ written = record {
   inverse = inverse3;
   invert_is = λ m. refl;
   inverse_known = λ m M holds k power det det-known c r h l.
-      subst (λ (x : Float). Known x (numerators 3 (sign_of (signed_sum_lem 3 M)) M c r) k largest) (sym (inverse_is m det c r h l))
+      subst (λ (x : Float). Known x (numerators 3 (sign_of (exact_signed_sum 3 M)) M c r) k largest) (sym (inverse_is m det c r h l))
       (divided binary64 2 1024 largest cofactor3 (lit< tt) (floats3 m) M holds k power det (bound (λ i. 1024) sum3) det-known (lit< tt) tt c r h l);
 }
 

@@ -8,7 +8,7 @@ use Rattle.matrix.specs.Arithmetic.{mul2, mul_vector2}
 use Rattle.matrix.specs.Inverse.{det2, inverse2}
 use Rattle.matrix.specs.declared.records.Matrix2.{Matrix2}
 use Rattle.whole.specs.Matrix.{δ}
-use Rattle.whole.specs.Order.{signed_sum_lem}
+use Rattle.whole.specs.Order.{exact_signed_sum}
 use Rattle.whole.proofs.Formula.{bound}
 use Rattle.whole.proofs.Inverse.{numerators}
 use Rattle.exact.specs.Value.{Exact}
@@ -56,7 +56,7 @@ written = record {
   inverse = inverse2;
   invert_is = λ m. refl;
   inverse_known = λ m M holds k power det det-known c r h l.
-      subst (λ (x : Float). Known x (numerators 2 (sign_of (signed_sum_lem 2 M)) M c r) k 1024) (sym (inverse_is m det c r h l))
+      subst (λ (x : Float). Known x (numerators 2 (sign_of (exact_signed_sum 2 M)) M c r) k 1024) (sym (inverse_is m det c r h l))
       (divided binary64 1 1024 1024 cofactor2 (lit< tt) (floats2 m) M holds k power det (bound (λ i. 1024) sum2) det-known (lit< tt) tt c r h l);
 }
 

@@ -16,7 +16,7 @@ use Rattle.matrix.specs.declared.records.Matrix2.{Matrix2}
 use Rattle.matrix.specs.declared.records.Matrix3.{Matrix3}
 use Rattle.matrix.specs.declared.records.Matrix4.{Matrix4}
 use Rattle.whole.specs.Matrix.{Matrix}
-use Rattle.whole.specs.Order.{signed_sum_lem}
+use Rattle.whole.specs.Order.{exact_signed_sum}
 use Rattle.whole.specs.Claim.{ZeroExactlyIf}
 use Rattle.exact.specs.Value.{Exact, Whole, Equal}
 use Rattle.engine.specs.Whole.{Floats, whole_entries, AllWhole, numbers, floats2, floats3, floats4}
@@ -91,7 +91,7 @@ WholeEntries p limit m = T (whole_entries limit p.order (p.entries m))
 
 -- "the exact signed sum over column orders", of the matrix's own whole entries
 abbrev pub sum_of : (p : Port) → p.Matrix → ℤ
-sum_of p m = signed_sum_lem p.order (numbers (p.entries m))
+sum_of p m = exact_signed_sum p.order (numbers (p.entries m))
 
 -- "plus or minus a power of two, one included"
 abbrev pub PowerOfTwo : ℤ → Type 0
@@ -118,7 +118,7 @@ pub record ExactFraction (x : Float) (a b : ℤ) : Type 0 where
 
 -- i is the exact inverse of the whole matrix w: each of its entries is a cofactor of w over the signed sum, columns and rows exchanged. That these cofactors times w are the sum times the identity, either way round, is `cofactors_over_sum` of proofs/Fractions.antt
 abbrev pub ExactInverse : (p : Port) → Matrix → p.Matrix → Type 0
-ExactInverse p w i = (c r : ℕ) → c < p.order → r < p.order → ExactFraction (p.entries i c r) (cofactor_of p.order w r c) (signed_sum_lem p.order w)
+ExactInverse p w i = (c r : ℕ) → c < p.order → r < p.order → ExactFraction (p.entries i c r) (cofactor_of p.order w r c) (exact_signed_sum p.order w)
 
 -- ---- the demand, for entries and vectors up to their limits
 

@@ -8,7 +8,7 @@ use Rattle.matrix.specs.Places.{column_below, row_below}
 use Rattle.matrix.specs.declared.places.Column.{Column}
 use Rattle.matrix.specs.declared.places.Row.{Row}
 use Rattle.whole.specs.Matrix.{Matrix, times, IsMultiple}
-use Rattle.whole.specs.Order.{parity, skip, signed_sum_lem}
+use Rattle.whole.specs.Order.{parity, skip, exact_signed_sum}
 use Rattle.engine.specs.Whole.{Floats, whole_entries, AllWhole, numbers}
 use Rattle.engine.specs.declared.answers.NumberAnswer.{NumberAnswer}
 use Rattle.engine.specs.declared.answers.NumberAnswer.TheVariants as number
@@ -37,7 +37,7 @@ TakenExactly limit = (n : ℕ) (e : Floats) → ((taken limit n e ≡ given tt) 
 
 -- the signed sum over all column orders: 2, 6 or 24 terms
 abbrev pub signed_sum : (limit n : ℕ) → Floats → Outcome ℤ
-signed_sum limit n e = after (taken limit n e) (given (signed_sum_lem n (numbers e)))
+signed_sum limit n e = after (taken limit n e) (given (exact_signed_sum n (numbers e)))
 
 -- exactly one bit of the number is set
 unfoldable pub is_one_bit : ℕ → Bool
@@ -49,11 +49,11 @@ undoable_sum sum = is_one_bit (unsigned_abs sum)
 
 -- whether the signed sum is undoable
 abbrev pub undoable : (limit n : ℕ) → Floats → Outcome Bool
-undoable limit n e = after (taken limit n e) (given (undoable_sum (signed_sum_lem n (numbers e))))
+undoable limit n e = after (taken limit n e) (given (undoable_sum (exact_signed_sum n (numbers e))))
 
 -- the cofactor of column c, row r at the order n: the sign of the place times the signed sum without that column and that row
 abbrev pub cofactor_of : ℕ → Matrix → ℕ → ℕ → ℤ
-cofactor_of n m c r = parity c *ℤ parity r *ℤ signed_sum_lem (n - 1) (λ d s. m (skip c d) (skip r s))
+cofactor_of n m c r = parity c *ℤ parity r *ℤ exact_signed_sum (n - 1) (λ d s. m (skip c d) (skip r s))
 
 -- the cofactor as an outcome: its place is a column and then a row of one place, 11, first, then 12, first; then refusal 6
 abbrev pub cofactor : (limit n : ℕ) → Floats → Column → Row → Outcome ℤ
@@ -68,5 +68,5 @@ OneBitIsPower = (n : ℕ) → T (is_one_bit n) ↔ ((k : ℕ) × (n ≡ 2 ^ k))
 -- at an order above 0 an inverse's entry as an exact fraction is a cofactor over the sum, columns and rows exchanged: that matrix and m have the sum times the identity as their product, either way round; shown in proofs/Fractions.antt
 abbrev pub CofactorsOverSum : ℕ → Matrix → Type 0
 CofactorsOverSum n m =
-    IsMultiple n (times n m (λ c r. cofactor_of n m r c)) (signed_sum_lem n m)
-    × IsMultiple n (times n (λ c r. cofactor_of n m r c) m) (signed_sum_lem n m)
+    IsMultiple n (times n m (λ c r. cofactor_of n m r c)) (exact_signed_sum n m)
+    × IsMultiple n (times n (λ c r. cofactor_of n m r c) m) (exact_signed_sum n m)

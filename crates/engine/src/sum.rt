@@ -1,7 +1,7 @@
 // The signed sum over the column orders: one loop over the table serves orders 2, 3 and 4, and the minors of order 1.
 ghost use Rattle.std.specs.Prelude.{◌≡◌, ◌≤◌, take};
 ghost use Rattle.vector.specs.Refusals.{given, after};
-ghost use Rattle.whole.specs.Order.{Order, down_rows, signed_sum_lem};
+ghost use Rattle.whole.specs.Order.{Order, down_rows, exact_signed_sum};
 ghost use Rattle.whole.specs.Claim.{factorial};
 ghost use Rattle.engine.specs.Whole.{floats2, floats3, floats4, numbers, wholes, Small};
 ghost use Rattle.engine.specs.Engine.{number_outcome, taken, signed_sum};
@@ -35,7 +35,7 @@ pub fn signed_sum4(m: Matrix4) -> NumberAnswer
 // The signed sum of the first n columns and rows, or refusal 6.
 fn sum_answer(m: Matrix4, n: usize) -> NumberAnswer
     requires { n ≤ 4 }
-    ensures { number_outcome result ≡ after (taken 1024 4 (floats4 m)) (given (signed_sum_lem n (numbers (floats4 m)))) }
+    ensures { number_outcome result ≡ after (taken 1024 4 (floats4 m)) (given (exact_signed_sum n (numbers (floats4 m)))) }
 {
     if entries::whole_entries(m) {
         NumberAnswer::Given(signed_sum(entries::numbers(m), n))
@@ -47,7 +47,7 @@ fn sum_answer(m: Matrix4, n: usize) -> NumberAnswer
 // The signed sum over the orders of the first n columns.
 pub(crate) fn signed_sum(m: [[i64; 4]; 4], n: usize) -> i64
     requires { (n ≤ 4) × Small n (wholes m) }
-    ensures { result ≡ signed_sum_lem n (wholes m) }
+    ensures { result ≡ exact_signed_sum n (wholes m) }
 {
     let rows = row_count(n);
     let mut sum: i64 = 0;

@@ -2,7 +2,7 @@
 -- Assumes nothing.
 use Rattle.std.proofs.Common.{◌≡◌, ℕ, zero, suc, ◌-◌, ◌<◌, Bool, true, false, ◌++◌, ℤ, refl, ap, arith}
 use Rattle.whole.specs.Matrix.{Matrix}
-use Rattle.whole.specs.Order.{signed_sum_lem}
+use Rattle.whole.specs.Order.{exact_signed_sum}
 use Rattle.whole.proofs.Expansion.{signed_sum_ext}
 use Rattle.engine.proofs.Outcomes.{cofactor_ext}
 use Rattle.report.specs.Text.{Bytes, text, each, whole}
@@ -29,4 +29,4 @@ module _ (n : ℕ) (m w : Matrix) (same : (c r : ℕ) → c < n → r < n → m 
   -- the report
   pub report_ext : matrix_report n m ≡ matrix_report n w
   unfolding sum_report inverse_report
-  report_ext = rw (signed_sum_ext n m w same, rows_ext false (signed_sum_lem n w), rows_ext true (signed_sum_lem n w))
+  report_ext = rw (signed_sum_ext n m w same, rows_ext false (exact_signed_sum n w), rows_ext true (exact_signed_sum n w))

@@ -14,7 +14,7 @@ use Rattle.matrix.specs.declared.places.Row.{Row}
 use Rattle.matrix.specs.declared.records.Matrix2.{Matrix2}
 use Rattle.matrix.specs.declared.records.Matrix3.{Matrix3}
 use Rattle.matrix.specs.declared.records.Matrix4.{Matrix4}
-use Rattle.whole.specs.Order.{signed_sum_lem}
+use Rattle.whole.specs.Order.{exact_signed_sum}
 use Rattle.engine.specs.Whole.{Floats, whole_entries, numbers, floats2, floats3, floats4}
 use Rattle.engine.specs.Engine.{number_outcome, taken, cofactor_of, signed_sum, cofactor}
 use Rattle.engine.specs.declared.answers.NumberAnswer.{NumberAnswer}
@@ -139,7 +139,7 @@ module _ (list : List ℤ) (n : ℕ) (e : Floats) (small : SmallList (n * n) lis
   all_taken = taken_yes 1024 n e (passes_true (whole_entries 1024 n e) (taken_held 1024 n e (columns n list) (lit< tt) holds))
 
   -- the engine's sum
-  sum_is : (z : ℤ) (o : Outcome ℤ) → o ≡ signed_sum 1024 n e → z ≡ number_in o → z ≡ signed_sum_lem n (columns n list)
+  sum_is : (z : ℤ) (o : Outcome ℤ) → o ≡ signed_sum 1024 n e → z ≡ number_in o → z ≡ exact_signed_sum n (columns n list)
   sum_is z o answered given_is = given_is ∙ rw (answered, all_taken) (sum_held 1024 n e (columns n list) (lit< tt) holds)
 
   -- the engine's cofactor
@@ -169,7 +169,7 @@ module _ {n : ℕ} {list : List ℤ} (small : SmallList (n * n) list) (k : ℕ) 
 
   module _ {e : Floats} (floats : AsFloats k list e) {z : ℤ} (fits : mag z < 2 ^ 63) (o : Outcome ℤ) (given_is : z ≡ number_in o) where
     -- the number that the code holds is the sum
-    pub arm_sum : o ≡ signed_sum 1024 k e → to_z w64 (of_z w64 z) ≡ signed_sum_lem n (columns n list)
+    pub arm_sum : o ≡ signed_sum 1024 k e → to_z w64 (of_z w64 z) ≡ exact_signed_sum n (columns n list)
     arm_sum answered = back z fits ∙ rw arm (sum_is list k e small_arm floats z o answered given_is)
 
     -- and the cofactor

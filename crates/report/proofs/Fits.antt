@@ -3,7 +3,7 @@
 use Rattle.std.proofs.Common.{ℕ, zero, suc, ◌+◌, ◌*◌, ◌/◌, ◌%◌, ◌^◌, ◌≤◌, Bool, true, false, cond, eqb, leb, [], ◌∷◌, ◌++◌, length, ℤ, pos, negsuc, ◌*ℤ◌, nat_abs, le_trans, mul-le-mul_right, suc-mul, arith, lit≤, length-append}
 use lib.Signed.{lt_z}
 use Rattle.whole.specs.Matrix.{Matrix}
-use Rattle.whole.specs.Order.{signed_sum_lem}
+use Rattle.whole.specs.Order.{exact_signed_sum}
 use Rattle.engine.specs.Engine.{is_one_bit, cofactor_of}
 use Rattle.report.specs.declared.fraction.Ratio.{Ratio}
 use Rattle.report.specs.Text.{Bytes, text, each, digit, higher, decimal, whole}
@@ -126,7 +126,7 @@ unfolding told SquareIn
 told_fits no_order square = lit≤ tt
 told_fits (other_count n) square = le_trans (expected_fits n) (lit≤ tt)
 told_fits (not_whole n place) square = le_trans (refusal_fits n place) (lit≤ tt)
-told_fits (matrix n zs) square = matrix_fits n (columns n zs) square.most (signed_sum_lem n (columns n zs))
+told_fits (matrix n zs) square = matrix_fits n (columns n zs) square.most (exact_signed_sum n (columns n zs))
 
 help_fits : length help ≤ 2048
 unfolding help

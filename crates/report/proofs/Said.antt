@@ -2,7 +2,7 @@
 -- Assumes nothing.
 use Rattle.std.proofs.Common.{◌≡◌, ℕ, ◌+◌, ◌-◌, ◌*◌, ◌/◌, ◌%◌, ◌≤◌, Bool, true, false, cond, T, eqb, List, ◌++◌, length, get_or, ℤ, nat_abs, sym, refl, ap, ◌∙◌, subst, arith, lit≤, length-append, get_or-append-add}
 use Rattle.whole.specs.Matrix.{Matrix}
-use Rattle.whole.specs.Order.{signed_sum_lem}
+use Rattle.whole.specs.Order.{exact_signed_sum}
 use Rattle.engine.specs.Engine.{is_one_bit}
 use Rattle.engine.specs.Demand.{Port, port2, port3, port4}
 use Rattle.report.specs.declared.totals.Verdict.{Verdict}
@@ -164,7 +164,7 @@ unfolding told SquareIn
 told_yes k no_order square ending = absurd (no_order_lem ending.third)
 told_yes k (other_count n) square ending = absurd (no_entries n ending.third)
 told_yes k (not_whole n place) square ending = absurd (no_small n place ending.third)
-told_yes k (matrix n zs) square ending = back n (vectors_of k) zs square (sum_yes k n (columns n zs) (signed_sum_lem n (columns n zs)) ending)
+told_yes k (matrix n zs) square ending = back n (vectors_of k) zs square (sum_yes k n (columns n zs) (exact_signed_sum n (columns n zs)) ending)
 
 -- whose verdict does
 verdict_yes : (k : ℕ) (line : Line) → SquareIn line → Yes (eqb k 4) (verdict_text line) → ComesBack line (vectors_of k)
@@ -172,7 +172,7 @@ unfolding verdict_text SquareIn
 verdict_yes k no_order square ending = absurd (no_order_lem ending.third)
 verdict_yes k (other_count n) square ending = absurd (no_entries n ending.third)
 verdict_yes k (not_whole n place) square ending = absurd (no_small n place ending.third)
-verdict_yes k (matrix n zs) square ending = back n (vectors_of k) zs square (line_yes k n (columns n zs) (signed_sum_lem n (columns n zs)) ending)
+verdict_yes k (matrix n zs) square ending = back n (vectors_of k) zs square (line_yes k n (columns n zs) (exact_signed_sum n (columns n zs)) ending)
 
 -- and whose verdict is of that kind
 kind_back : (line : Line) → SquareIn line → verdict_in line ≡ verdict.ComesBack → (k : ℕ) × ComesBack line (vectors_of k)
@@ -180,7 +180,7 @@ unfolding verdict_in SquareIn is_back
 kind_back no_order square e = differ (sym (ap is_back e))
 kind_back (other_count n) square e = differ (sym (ap is_back e))
 kind_back (not_whole n place) square e = differ (sym (ap is_back e))
-kind_back (matrix n zs) square e = (n, back n (vectors_of n) zs square (kind_yes (signed_sum_lem n (columns n zs)) e, refl))
+kind_back (matrix n zs) square e = (n, back n (vectors_of n) zs square (kind_yes (exact_signed_sum n (columns n zs)) e, refl))
 
 -- a text that ends with the sentence
 ends_so : (k : ℕ) (t : Bytes) → EndsWithYes t k → Yes (eqb k 4) t

@@ -2,7 +2,7 @@
 -- Assumes nothing.
 use Rattle.std.proofs.Common.{◌≡◌, ℕ, ◌+◌, ◌*◌, ◌^◌, ◌<◌, ◌≤◌, Bool, true, false, cond, List, take, ℤ, pos, sym, refl, ap, ◌∙◌, arith, lit<, get_or-take}
 use lib.Signed.{mag}
-use Rattle.whole.specs.Order.{signed_sum_lem}
+use Rattle.whole.specs.Order.{exact_signed_sum}
 use Rattle.whole.proofs.Expansion.{signed_sum_ext}
 use Rattle.engine.proofs.Signed.{back}
 use Rattle.report.specs.declared.line.Found.{Found}
@@ -65,7 +65,7 @@ module _ (line : Bytes) (place : ℕ) (list : List ℤ) where
           holds = record { few = few; in_range = lit< tt; some = λ e. omega arith; square = λ e. differ (sym (ap is_matrix e)); summed = λ e. differ (sym (ap is_matrix e)) };
         }
 
-    pub reads_matrix : (s : ℤ) → mag s < 2 ^ 63 → s ≡ signed_sum_lem n (columns n list) → Square n list → matrix n (take (n * n) list) ≡ line_of line
+    pub reads_matrix : (s : ℤ) → mag s < 2 ^ 63 → s ≡ exact_signed_sum n (columns n list) → Square n list → matrix n (take (n * n) list) ≡ line_of line
         → Reads line (record { found = found.Matrix; order = n; place = place; sum = held s; list = list })
     unfolding meant is_outside
     reads_matrix s fits is_sum square is =
@@ -81,7 +81,7 @@ module _ (n : ℕ) (list : List ℤ) where
   first_ones : (c r : ℕ) → c < n → r < n → columns n list c r ≡ columns n (take (n * n) list) c r
   first_ones c r h l = sym (get_or-take (n * n) list (c * n + r) (pos 0) (place n c r h l))
 
-  same_sum : signed_sum_lem n (columns n list) ≡ signed_sum_lem n (columns n (take (n * n) list))
+  same_sum : exact_signed_sum n (columns n list) ≡ exact_signed_sum n (columns n (take (n * n) list))
   same_sum = signed_sum_ext n (columns n list) (columns n (take (n * n) list)) first_ones
 
 -- one text either way
@@ -107,10 +107,10 @@ module _ (r : Reading) (brief : Bool) where
   tell_not_whole e w = named (either_way brief (refusal6 r.order r.place) ∙ rw e) w
 
 module _ (r : Reading) (holds : Holds r) (e : r.found ≡ found.Matrix) where
-  held_sum : held r.sum ≡ signed_sum_lem r.order (columns r.order r.list)
+  held_sum : held r.sum ≡ exact_signed_sum r.order (columns r.order r.list)
   held_sum = back r.sum holds.in_range ∙ holds.summed e
 
-  sum_is : held r.sum ≡ signed_sum_lem r.order (columns r.order (take (r.order * r.order) r.list))
+  sum_is : held r.sum ≡ exact_signed_sum r.order (columns r.order (take (r.order * r.order) r.list))
   sum_is = held_sum ∙ same_sum r.order r.list
 
   same_report : matrix_report r.order (columns r.order r.list) ≡ matrix_report r.order (columns r.order (take (r.order * r.order) r.list))

@@ -2,7 +2,7 @@
 -- Assumes nothing.
 use Rattle.std.proofs.Common.{◌≡◌, ℕ, ◌+◌, ◌≤◌, Bool, true, false, cond, eqb, [], ◌++◌, length, ℤ, nat_abs, sym, refl, append_assoc, le_trans, lit≤}
 use Rattle.whole.specs.Matrix.{Matrix}
-use Rattle.whole.specs.Order.{signed_sum_lem}
+use Rattle.whole.specs.Order.{exact_signed_sum}
 use Rattle.engine.specs.Engine.{is_one_bit}
 use Rattle.report.specs.declared.totals.Totals.{Totals}
 use Rattle.report.specs.Text.{Bytes, text, decimal, whole}
@@ -34,7 +34,7 @@ unfolding told verdict_text
 end_of_report no_order = ([], refl)
 end_of_report (other_count n) = ([], refl)
 end_of_report (not_whole n place) = ([], refl)
-end_of_report (matrix n zs) = (before n (columns n zs) (signed_sum_lem n (columns n zs)), sum_end n (columns n zs) (signed_sum_lem n (columns n zs)))
+end_of_report (matrix n zs) = (before n (columns n zs) (exact_signed_sum n (columns n zs)), sum_end n (columns n zs) (exact_signed_sum n (columns n zs)))
 
 -- ---- room
 
@@ -44,7 +44,7 @@ verdict_fits no_order = lit≤ tt
 verdict_fits (other_count n) = le_trans (expected_fits n) (lit≤ tt)
 verdict_fits (not_whole n place) = le_trans (refusal_fits n place) (lit≤ tt)
 verdict_fits (matrix n zs) =
-    let s = signed_sum_lem n (columns n zs) in
+    let s = exact_signed_sum n (columns n zs) in
     either (eqb (nat_abs s) 0) refusal2 (comes_back n (is_one_bit (nat_abs s))) 256 (lit≤ tt) (le_trans (comes_back_fits n (is_one_bit (nat_abs s))) (lit≤ tt))
 
 -- a label and its number

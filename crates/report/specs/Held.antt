@@ -1,14 +1,14 @@
 -- Where the report says that what a matrix moves comes back, it does: demand 3 of that very matrix, and of the inverse that the report prints.
 -- Said once over the order. Assumes nothing.
 use Rattle.std.specs.Prelude.{ℕ, ◌*◌, Bool, cond, T, List, ℤ, ◌==◌, unsigned_abs}
-use Rattle.whole.specs.Order.{signed_sum_lem}
+use Rattle.whole.specs.Order.{exact_signed_sum}
 use Rattle.engine.specs.Engine.{is_one_bit}
 use Rattle.engine.specs.Demand.{Port, port2, port3, port4, HasExactInverse}
 use Rattle.report.specs.Entries.{columns, SmallList, AsFloats}
 
 -- whether the report says that what a matrix of the order n moves comes back: exactly one bit of its signed sum's magnitude is set
 abbrev pub says : ℕ → List ℤ → Bool
-says n zs = is_one_bit (unsigned_abs (signed_sum_lem n (columns n zs)))
+says n zs = is_one_bit (unsigned_abs (exact_signed_sum n (columns n zs)))
 
 -- up to which entries whole vectors come back: the limit that the report names
 abbrev pub vectors_of : ℕ → ℕ

@@ -2,7 +2,7 @@
 -- Assumes nothing.
 use Rattle.std.specs.Prelude.{◌≡◌, ℕ, ◌*◌, ◌^◌, ◌<◌, ◌≤◌, cond, List, [], ◌∷◌, map, length, take, ℤ, ◌==◌}
 use Rattle.std.specs.Int.Signed.{mag}
-use Rattle.whole.specs.Order.{signed_sum_lem}
+use Rattle.whole.specs.Order.{exact_signed_sum}
 use Rattle.report.specs.declared.line.Found.{Found}
 use Rattle.report.specs.declared.line.Found.TheVariants as found
 use Rattle.report.specs.declared.line.Reading.{Reading}
@@ -52,7 +52,7 @@ pub record Holds (r : Reading) : Type 0 where
   pub in_range : mag r.sum < 2 ^ 63
   pub some : r.found ≡ found.NotWhole → 0 < r.order
   pub square : r.found ≡ found.Matrix → Square r.order r.list
-  pub summed : r.found ≡ found.Matrix → r.sum ≡ signed_sum_lem r.order (columns r.order r.list)
+  pub summed : r.found ≡ found.Matrix → r.sum ≡ exact_signed_sum r.order (columns r.order r.list)
 
 -- a reading of a line
 pub record Reads (s : Bytes) (r : Reading) : Type 0 where

@@ -3,7 +3,7 @@
 use Rattle.std.specs.Prelude.{◌≡◌, ℕ, zero, suc, ◌*◌, ◌/◌, ◌%◌, ◌<◌, ◌≤◌, Bool, true, false, cond, [], ◌++◌, length, take, drop, ℤ, pos, ◌*ℤ◌, ◌==◌, int_lt, unsigned_abs}
 use Rattle.std.specs.Int.{◌∣◌}
 use Rattle.whole.specs.Matrix.{Matrix}
-use Rattle.whole.specs.Order.{signed_sum_lem}
+use Rattle.whole.specs.Order.{exact_signed_sum}
 use Rattle.engine.specs.Engine.{is_one_bit, cofactor_of}
 use Rattle.report.specs.declared.fraction.Ratio.{Ratio}
 use Rattle.report.specs.Text.{Bytes, text, each, decimal, whole}
@@ -113,7 +113,7 @@ sum_report n m s =
 
 -- the report of a matrix: its own signed sum
 abbrev pub matrix_report : ℕ → Matrix → Bytes
-matrix_report n m = sum_report n m (signed_sum_lem n m)
+matrix_report n m = sum_report n m (exact_signed_sum n m)
 
 -- what a line holds, told in full
 unfoldable pub told : Line → Bytes

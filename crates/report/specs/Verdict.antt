@@ -2,7 +2,7 @@
 -- Assumes nothing.
 use Rattle.std.specs.Prelude.{◌≡◌, ℕ, ◌+◌, ◌-◌, ◌^◌, ◌≤◌, min, cond, ◌++◌, length, ℤ, ◌==◌, unsigned_abs}
 use Prim.Native.String.{String}
-use Rattle.whole.specs.Order.{signed_sum_lem}
+use Rattle.whole.specs.Order.{exact_signed_sum}
 use Rattle.engine.specs.Engine.{is_one_bit}
 use Rattle.report.specs.declared.totals.Totals.{Totals}
 use Rattle.report.specs.declared.totals.Verdict.{Verdict}
@@ -27,14 +27,14 @@ unfoldable pub verdict_in : Line → Verdict
 verdict_in no_order = NotRead
 verdict_in (other_count n) = NotRead
 verdict_in (not_whole n place) = NotWhole
-verdict_in (matrix n zs) = sum_verdict (signed_sum_lem n (columns n zs))
+verdict_in (matrix n zs) = sum_verdict (exact_signed_sum n (columns n zs))
 
 -- its text
 unfoldable pub verdict_text : Line → Bytes
 verdict_text no_order = order_expected
 verdict_text (other_count n) = entries_expected n
 verdict_text (not_whole n place) = refusal6 n place
-verdict_text (matrix n zs) = sum_line n (signed_sum_lem n (columns n zs))
+verdict_text (matrix n zs) = sum_line n (exact_signed_sum n (columns n zs))
 
 -- ---- the totals
 

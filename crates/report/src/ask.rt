@@ -1,7 +1,7 @@
 // The exact engine, asked about a matrix whose entries stand in a list column by column.
 ghost use Rattle.std.specs.Prelude.{◌≡◌, ◌+◌, ◌<◌, ◌≤◌, length, take};
 ghost use Rattle.vector.specs.Vectors.{vector2, vector3, vector4};
-ghost use Rattle.whole.specs.Order.{signed_sum_lem};
+ghost use Rattle.whole.specs.Order.{exact_signed_sum};
 ghost use Rattle.engine.specs.Whole.{floats2, floats3, floats4};
 ghost use Rattle.engine.specs.Engine.{number_outcome, cofactor_of};
 ghost use Rattle.report.specs.Words.{passing};
@@ -119,7 +119,7 @@ pub(crate) fn entry(list: [i64; 16], n: usize, c: usize, r: usize) -> i64
 // The signed sum of an order.
 pub(crate) fn signed_sum(list: [i64; 16], n: usize) -> i64
     requires { Square n list }
-    ensures { result ≡ signed_sum_lem n (columns n list) }
+    ensures { result ≡ exact_signed_sum n (columns n list) }
 {
     match n {
         2 => number(engine::signed_sum2(matrix2(list))),

@@ -16,7 +16,7 @@ use Rattle.matrix.specs.Inverse.{det3, det_sub_proc, det4, nonzero}
 use Rattle.matrix.specs.declared.records.Matrix2.{Matrix2}
 use Rattle.matrix.specs.declared.records.Matrix4.{Matrix4}
 use Rattle.whole.specs.Sum.{product, sum_over}
-use Rattle.whole.specs.Order.{orders, down_rows, signed_sum_lem}
+use Rattle.whole.specs.Order.{orders, down_rows, exact_signed_sum}
 use Rattle.exact.specs.Value.{Equal}
 use Rattle.exact.proofs.Value.{exact_unique}
 use Rattle.exact.proofs.Literals.{exact_one}
@@ -49,15 +49,15 @@ double_whole = tt
 
 -- and their sums are 1, 0 and 2
 identity_sum : sum_of port2 identity2 ≡ pos 1
-unfolding signed_sum_lem orders sum_over down_rows product to_signed of_bits
+unfolding exact_signed_sum orders sum_over down_rows product to_signed of_bits
 identity_sum = refl
 
 zero_sum : sum_of port2 zero2 ≡ pos 0
-unfolding signed_sum_lem orders sum_over down_rows product to_signed of_bits
+unfolding exact_signed_sum orders sum_over down_rows product to_signed of_bits
 zero_sum = refl
 
 double_sum : sum_of port2 double ≡ pos 2
-unfolding signed_sum_lem orders sum_over down_rows product to_signed of_bits
+unfolding exact_signed_sum orders sum_over down_rows product to_signed of_bits
 double_sum = refl
 
 -- an invert that refuses everything is stopped by line 2, at the identity
@@ -101,7 +101,7 @@ unfolding whole_entries is_whole to_signed of_int of_bits eq
 exchange_whole = tt
 
 exchange_sum : sum_of port4 exchange ≡ negsuc 0
-unfolding signed_sum_lem orders sum_over down_rows product to_signed of_bits
+unfolding exact_signed_sum orders sum_over down_rows product to_signed of_bits
 exchange_sum = refl
 
 -- what it gives

@@ -8,7 +8,7 @@ use lib.Count.{ones_in, ones, count_trailing_zeros}
 use lib.Ieee.{eq, of_int, of_bits, of_fields, to_signed, round, size, span, climb, units, odd, whole}
 use Rattle.vector.specs.Refusals.{bare}
 use Rattle.whole.specs.Sum.{product, sum_over}
-use Rattle.whole.specs.Order.{down_rows, orders, signed_sum_lem}
+use Rattle.whole.specs.Order.{down_rows, orders, exact_signed_sum}
 use Rattle.engine.specs.Whole.{is_whole, whole_entries}
 use Rattle.engine.specs.Engine.{taken, is_one_bit}
 use Rattle.engine.specs.Orders.{rows}
@@ -17,7 +17,7 @@ use Rattle.slips.proofs.Parts.{told_apart, gives, refuses}
 
 -- all of them
 pub engine_slips : EngineSlips
-unfolding eq of_int of_bits of_fields to_signed round size span climb units odd count_trailing_zeros whole ones_in ones product sum_over down_rows orders signed_sum_lem is_whole whole_entries taken is_one_bit rows
+unfolding eq of_int of_bits of_fields to_signed round size span climb units odd count_trailing_zeros whole ones_in ones product sum_over down_rows orders exact_signed_sum is_whole whole_entries taken is_one_bit rows
 engine_slips = record {
   takes_1025 = told_apart (refuses (bare 6)) tt (λ t. t);
   refuses_minus_zero = told_apart (gives (λ sum. true)) tt (λ t. t);

@@ -8,7 +8,7 @@ use Rattle.vector.specs.Refusals.{Outcome, given, refused_for, after}
 use Rattle.vector.specs.declared.refusal.Refusal.TheVariants.{NotWhole}
 use Rattle.matrix.specs.Records.{zero2, new2}
 use Rattle.matrix.specs.declared.records.Matrix2.{Matrix2}
-use Rattle.whole.specs.Order.{signed_sum_lem}
+use Rattle.whole.specs.Order.{exact_signed_sum}
 use Rattle.whole.specs.Claim.{Table, HoldsOrders}
 use Rattle.engine.specs.Whole.{Floats, whole_number, all_places, numbers, floats2}
 use Rattle.engine.specs.Engine.{taken, signed_sum, undoable}
@@ -26,11 +26,11 @@ signed_sum_to1025 n e = signed_sum 1025 n e
 abbrev pub signed_sum_no_minus_zero : ℕ → Floats → Outcome ℤ
 signed_sum_no_minus_zero n e =
     after (cond (all_places n (λ c r. leb (nat_abs (whole_number (e c r))) 1024 && castable binary64 (e c r))) (given tt) (refused_for NotWhole))
-    (given (signed_sum_lem n (numbers e)))
+    (given (exact_signed_sum n (numbers e)))
 
 -- slip: at most one bit is set, so that zero is undoable
 abbrev pub undoable_at_zero : ℕ → Floats → Outcome Bool
-undoable_at_zero n e = after (taken 1024 n e) (given (leb (ones (nat_abs (signed_sum_lem n (numbers e)))) 1))
+undoable_at_zero n e = after (taken 1024 n e) (given (leb (ones (nat_abs (exact_signed_sum n (numbers e)))) 1))
 
 -- slip: a row of the table with its sign turned
 abbrev pub sign_turned : Table

@@ -15,7 +15,7 @@ use Rattle.whole.proofs.Orders.{orders_sound, orders_count}
 use Rattle.whole.proofs.Expansion.{without, cofactor, places_without}
 use Rattle.whole.specs.Sum.{product}
 use Rattle.whole.specs.Matrix.{Matrix}
-use Rattle.whole.specs.Order.{Order, inversions, parity, sign, down_rows, orders, signed_sum_lem}
+use Rattle.whole.specs.Order.{Order, inversions, parity, sign, down_rows, orders, exact_signed_sum}
 use Rattle.whole.specs.Claim.{Table, columns, factorial, table_sum, RightSign, HoldsOrders}
 
 -- ---- the signed sum
@@ -33,8 +33,8 @@ module _ (B n : ℕ) (m : Matrix) (within : Within B n m) where
       (product_le (length cs) B (λ r. m (get_or cs r 0) r) (λ r l. within (get_or cs r 0) r (all_get_d (λ c. c < n) cs o.below r 0 l) (lt_of_lt_of_le l (le_of_eq o.count))))
 
   -- the signed sum is at most n! * B ^ n
-  pub signed_sum_le : nat_abs (signed_sum_lem n m) ≤ factorial n * B ^ n
-  unfolding signed_sum_lem
+  pub signed_sum_le : nat_abs (exact_signed_sum n m) ≤ factorial n * B ^ n
+  unfolding exact_signed_sum
   signed_sum_le =
       le_trans (sum_over_le (B ^ n) (λ cs. sign cs *ℤ down_rows m cs) (orders n) (λ cs i. le_trans (le_of_eq (parity_keeps (inversions cs) (down_rows m cs))) (down_rows_le cs (orders_sound n cs i))))
       (le_of_eq (ap (λ (k : ℕ). k * B ^ n) (orders_count n)))
@@ -43,7 +43,7 @@ module _ (B n : ℕ) (m : Matrix) (within : Within B n m) where
 -- a cofactor of a matrix of the order n + 1 is at most n! * B ^ n
 pub cofactor_le : (B n : ℕ) (m : Matrix) → Within B (suc n) m → (c r : ℕ) → c ≤ n → r ≤ n → nat_abs (cofactor n m c r) ≤ factorial n * B ^ n
 cofactor_le B n m within c r hc hr =
-    le_trans (le_of_eq (ap nat_abs (*ℤ-assoc (parity c) (parity r) (signed_sum_lem n (without c r m))) ∙ parity_keeps c (parity r *ℤ signed_sum_lem n (without c r m)) ∙ parity_keeps r (signed_sum_lem n (without c r m))))
+    le_trans (le_of_eq (ap nat_abs (*ℤ-assoc (parity c) (parity r) (exact_signed_sum n (without c r m))) ∙ parity_keeps c (parity r *ℤ exact_signed_sum n (without c r m)) ∙ parity_keeps r (exact_signed_sum n (without c r m))))
     (signed_sum_le B n (without c r m) (places_without (λ d s. nat_abs (m d s) ≤ B) n c r hc hr within))
 
 -- ---- sums over a table

@@ -12,7 +12,7 @@ use Rattle.whole.proofs.Sum.{sum_ext, sum_zero, sum_mul, sum_swap, sum_skip, sum
 use Rattle.whole.proofs.Orders.{orders_sound, sign_lead}
 use Rattle.whole.specs.Sum.{sum, product, sum_over}
 use Rattle.whole.specs.Matrix.{Matrix}
-use Rattle.whole.specs.Order.{parity, sign, down_rows, skip, lead, orders, signed_sum_lem}
+use Rattle.whole.specs.Order.{parity, sign, down_rows, skip, lead, orders, exact_signed_sum}
 
 -- m without the column c and the row r
 abbrev pub without : ℕ → ℕ → Matrix → Matrix
@@ -20,7 +20,7 @@ without c r m = λ d s. m (skip c d) (skip r s)
 
 -- the cofactor of column c, row r in a matrix of the order n + 1
 abbrev pub cofactor : ℕ → Matrix → Matrix
-cofactor n m = λ c r. parity c *ℤ parity r *ℤ signed_sum_lem n (without c r m)
+cofactor n m = λ c r. parity c *ℤ parity r *ℤ exact_signed_sum n (without c r m)
 
 -- ---- the expansion along the first row
 -- a renaming of columns goes from the order to the matrix
@@ -35,8 +35,8 @@ unfolding down_rows product
 down_lead m c cs = ap (λ (z : ℤ). m c 0 *ℤ z) (down_map (λ d r. m d (suc r)) (skip c) cs)
 
 -- the part of the signed sum over the orders that have the column c first
-led : (n c : ℕ) → c ≤ n → (m : Matrix) → sum_over (λ cs. sign cs *ℤ down_rows m cs) (map (lead c) (orders n)) ≡ parity c *ℤ (m c 0 *ℤ signed_sum_lem n (without c 0 m))
-unfolding signed_sum_lem
+led : (n c : ℕ) → c ≤ n → (m : Matrix) → sum_over (λ cs. sign cs *ℤ down_rows m cs) (map (lead c) (orders n)) ≡ parity c *ℤ (m c 0 *ℤ exact_signed_sum n (without c 0 m))
+unfolding exact_signed_sum
 led n c h m =
     sum_over_map (λ cs. sign cs *ℤ down_rows m cs) (lead c) (orders n)
     ∙ sum_over_ext (orders n) by_order
@@ -49,15 +49,15 @@ led n c h m =
         ∙ same (var 0 ⊗ var 1 ⊗ (var 2 ⊗ var 3)) (var 0 ⊗ (var 2 ⊗ (var 1 ⊗ var 3))) tt (at (parity c ∷ sign cs ∷ m c 0 ∷ down_rows (without c 0 m) cs ∷ []))
 
 -- the first row chooses its column c, and the other rows order the columns that are left
-pub expansion_first : (n : ℕ) (m : Matrix) → signed_sum_lem (suc n) m ≡ sum (suc n) (λ c. parity c *ℤ (m c 0 *ℤ signed_sum_lem n (without c 0 m)))
-unfolding signed_sum_lem orders
+pub expansion_first : (n : ℕ) (m : Matrix) → exact_signed_sum (suc n) m ≡ sum (suc n) (λ c. parity c *ℤ (m c 0 *ℤ exact_signed_sum n (without c 0 m)))
+unfolding exact_signed_sum orders
 expansion_first n m =
     sum_over_joined (λ cs. sign cs *ℤ down_rows m cs) (suc n) (λ c. map (lead c) (orders n))
     ∙ sum_ext (suc n) (λ c l. led n c (le_of_suc-le-suc l) m)
 
 -- the signed sum of the order 0: the one order of no column
-pub signed_sum_zero : (m : Matrix) → signed_sum_lem 0 m ≡ pos 1
-unfolding signed_sum_lem orders sum_over down_rows product
+pub signed_sum_zero : (m : Matrix) → exact_signed_sum 0 m ≡ pos 1
+unfolding exact_signed_sum orders sum_over down_rows product
 signed_sum_zero m = refl
 
 -- ---- entries below the order
@@ -66,7 +66,7 @@ pub places_without : (P : ℕ → ℕ → Type 0) (n c r : ℕ) → c ≤ n → 
 places_without P n c r hc hr h d s k l = h (skip c d) (skip r s) (suc-le-suc (skip_le n c d hc k)) (suc-le-suc (skip_le n r s hr l))
 
 -- the signed sum looks only at the entries below the order
-pub signed_sum_ext : (n : ℕ) (m w : Matrix) → ((c r : ℕ) → c < n → r < n → m c r ≡ w c r) → signed_sum_lem n m ≡ signed_sum_lem n w
+pub signed_sum_ext : (n : ℕ) (m w : Matrix) → ((c r : ℕ) → c < n → r < n → m c r ≡ w c r) → exact_signed_sum n m ≡ exact_signed_sum n w
 signed_sum_ext zero m w h = signed_sum_zero m ∙ sym (signed_sum_zero w)
 signed_sum_ext (suc n) m w h =
     expansion_first n m
@@ -132,7 +132,7 @@ inside c j r m = λ d s. m (skip c (skip j d)) (suc (skip r s))
 
 -- the term of the columns c and `skip c j` in the rows r + 1 and 0
 abbrev double : ℕ → ℕ → Matrix → ℕ → ℕ → ℤ
-double n c m j r = m c (suc r) *ℤ (parity c *ℤ parity (suc r) *ℤ (parity j *ℤ (m (skip c j) 0 *ℤ signed_sum_lem n (inside c j r m))))
+double n c m j r = m c (suc r) *ℤ (parity c *ℤ parity (suc r) *ℤ (parity j *ℤ (m (skip c j) 0 *ℤ exact_signed_sum n (inside c j r m))))
 
 -- what both ways leave of m
 inside_eq : (c j r : ℕ) (m : Matrix) → without (other c j) r (without (skip c j) 0 m) ≡ inside c j r m
@@ -141,27 +141,27 @@ inside_eq c j r m = fun_ext (λ d. fun_ext (λ s. ap (λ (e : ℕ). m e (suc (sk
 -- the same term, reached from the first row
 double_eq : (n c : ℕ) (m : Matrix) (j r : ℕ) → let W : Matrix = without (skip c j) 0 m in parity (skip c j) *ℤ (m (skip c j) 0 *ℤ (W (other c j) r *ℤ cofactor n W (other c j) r)) ≡ double n c m j r
 double_eq n c m j r =
-    ap₂ (λ (y : ℤ) (W : Matrix). parity (skip c j) *ℤ (m (skip c j) 0 *ℤ (y *ℤ (parity (other c j) *ℤ parity r *ℤ signed_sum_lem n W)))) (ap (λ (d : ℕ). m d (suc r)) (other_is c j)) (inside_eq c j r m)
-    ∙ term (parity (skip c j)) (parity (other c j)) (parity r) (parity c) (parity j) (m (skip c j) 0) (m c (suc r)) (signed_sum_lem n (inside c j r m)) (other_parity c j)
+    ap₂ (λ (y : ℤ) (W : Matrix). parity (skip c j) *ℤ (m (skip c j) 0 *ℤ (y *ℤ (parity (other c j) *ℤ parity r *ℤ exact_signed_sum n W)))) (ap (λ (d : ℕ). m d (suc r)) (other_is c j)) (inside_eq c j r m)
+    ∙ term (parity (skip c j)) (parity (other c j)) (parity r) (parity c) (parity j) (m (skip c j) 0) (m c (suc r)) (exact_signed_sum n (inside c j r m)) (other_parity c j)
 
 -- the term of the first row, as a cofactor
 first_term : (a x d : ℤ) → a *ℤ (x *ℤ d) ≡ x *ℤ (a *ℤ pos 1 *ℤ d)
 first_term a x d = same (var 0 ⊗ (var 1 ⊗ var 2)) (var 1 ⊗ (var 0 ⊗ con (pos 1) ⊗ var 2)) tt (at (a ∷ x ∷ d ∷ []))
 
 -- the signed sum by the column c: each entry times its cofactor
-pub expansion_column : (n c : ℕ) → c ≤ n → (m : Matrix) → signed_sum_lem (suc n) m ≡ sum (suc n) (λ r. m c r *ℤ cofactor n m c r)
+pub expansion_column : (n c : ℕ) → c ≤ n → (m : Matrix) → exact_signed_sum (suc n) m ≡ sum (suc n) (λ r. m c r *ℤ cofactor n m c r)
 unfolding sum
-expansion_column zero zero h m = expansion_first 0 m ∙ ap (λ (z : ℤ). z +ℤ pos 0) (first_term (pos 1) (m 0 0) (signed_sum_lem 0 (without 0 0 m)))
+expansion_column zero zero h m = expansion_first 0 m ∙ ap (λ (z : ℤ). z +ℤ pos 0) (first_term (pos 1) (m 0 0) (exact_signed_sum 0 (without 0 0 m)))
 expansion_column zero (suc c) h m = absurd (not-suc-le-zero h)
 expansion_column (suc n) c h m =
     expansion_first (suc n) m
-    ∙ sum_skip (suc n) c (λ d. parity d *ℤ (m d 0 *ℤ signed_sum_lem (suc n) (without d 0 m))) h
-    ∙ ap₂ (λ (u v : ℤ). u +ℤ v) (first_term (parity c) (m c 0) (signed_sum_lem (suc n) (without c 0 m)))
+    ∙ sum_skip (suc n) c (λ d. parity d *ℤ (m d 0 *ℤ exact_signed_sum (suc n) (without d 0 m))) h
+    ∙ ap₂ (λ (u v : ℤ). u +ℤ v) (first_term (parity c) (m c 0) (exact_signed_sum (suc n) (without c 0 m)))
     (sum_ext (suc n) (λ j l. from_first j (expansion_column n (other c j) (other_le n c j h (le_of_suc-le-suc l)) (without (skip c j) 0 m)))
     ∙ sum_swap (suc n) (suc n) (double n c m)
     ∙ sum_ext (suc n) (λ r l. sym (from_column r)))
   where
-    from_first : (j : ℕ) → let W : Matrix = without (skip c j) 0 m in signed_sum_lem (suc n) W ≡ sum (suc n) (λ r. W (other c j) r *ℤ cofactor n W (other c j) r) → parity (skip c j) *ℤ (m (skip c j) 0 *ℤ signed_sum_lem (suc n) W) ≡ sum (suc n) (double n c m j)
+    from_first : (j : ℕ) → let W : Matrix = without (skip c j) 0 m in exact_signed_sum (suc n) W ≡ sum (suc n) (λ r. W (other c j) r *ℤ cofactor n W (other c j) r) → parity (skip c j) *ℤ (m (skip c j) 0 *ℤ exact_signed_sum (suc n) W) ≡ sum (suc n) (double n c m j)
     from_first j e =
         let W : Matrix = without (skip c j) 0 m in
         ap (λ (z : ℤ). parity (skip c j) *ℤ (m (skip c j) 0 *ℤ z)) e
@@ -171,7 +171,7 @@ expansion_column (suc n) c h m =
     from_column : (r : ℕ) → m c (suc r) *ℤ cofactor (suc n) m c (suc r) ≡ sum (suc n) (λ j. double n c m j r)
     from_column r =
         ap (λ (z : ℤ). m c (suc r) *ℤ (parity c *ℤ parity (suc r) *ℤ z)) (expansion_first n (without c (suc r) m))
-        ∙ sum_mul_mul (suc n) (m c (suc r)) (parity c *ℤ parity (suc r)) (λ j. parity j *ℤ (m (skip c j) 0 *ℤ signed_sum_lem n (inside c j r m)))
+        ∙ sum_mul_mul (suc n) (m c (suc r)) (parity c *ℤ parity (suc r)) (λ j. parity j *ℤ (m (skip c j) 0 *ℤ exact_signed_sum n (inside c j r m)))
 
 -- ---- the transpose
 -- rows for columns
@@ -179,12 +179,12 @@ abbrev pub transpose : Matrix → Matrix
 transpose m = λ c r. m r c
 
 -- the transpose has the same signed sum
-pub signed_sum_transpose : (n : ℕ) (m : Matrix) → signed_sum_lem n m ≡ signed_sum_lem n (transpose m)
+pub signed_sum_transpose : (n : ℕ) (m : Matrix) → exact_signed_sum n m ≡ exact_signed_sum n (transpose m)
 signed_sum_transpose zero m = signed_sum_zero m ∙ sym (signed_sum_zero (transpose m))
 signed_sum_transpose (suc n) m =
     expansion_column n 0 zero-le m
     ∙ sum_ext (suc n) (λ r l. ap (λ (z : ℤ). m 0 r *ℤ (pos 1 *ℤ parity r *ℤ z)) (signed_sum_transpose n (without 0 r m))
-    ∙ same (var 0 ⊗ (con (pos 1) ⊗ var 1 ⊗ var 2)) (var 1 ⊗ (var 0 ⊗ var 2)) tt (at (m 0 r ∷ parity r ∷ signed_sum_lem n (without r 0 (transpose m)) ∷ [])))
+    ∙ same (var 0 ⊗ (con (pos 1) ⊗ var 1 ⊗ var 2)) (var 1 ⊗ (var 0 ⊗ var 2)) tt (at (m 0 r ∷ parity r ∷ exact_signed_sum n (without r 0 (transpose m)) ∷ [])))
     ∙ sym (expansion_first n (transpose m))
 
 -- the cofactors of the transpose
@@ -192,7 +192,7 @@ pub cofactor_transpose : (n : ℕ) (m : Matrix) (c r : ℕ) → cofactor n (tran
 cofactor_transpose n m c r = ap₂ (λ (u v : ℤ). u *ℤ v) (*ℤ_comm (parity c) (parity r)) (sym (signed_sum_transpose n (without r c m)))
 
 -- the signed sum by the row r: each entry times its cofactor
-pub expansion_row : (n r : ℕ) → r ≤ n → (m : Matrix) → signed_sum_lem (suc n) m ≡ sum (suc n) (λ c. m c r *ℤ cofactor n m c r)
+pub expansion_row : (n r : ℕ) → r ≤ n → (m : Matrix) → exact_signed_sum (suc n) m ≡ sum (suc n) (λ c. m c r *ℤ cofactor n m c r)
 expansion_row n r h m =
     signed_sum_transpose (suc n) m
     ∙ expansion_column n r h (transpose m)
@@ -200,20 +200,20 @@ expansion_row n r h m =
 
 -- ---- two equal columns
 -- a column whose entries all have the cofactor 0
-by_column : (n c : ℕ) → c ≤ n → (m : Matrix) → ((r : ℕ) → signed_sum_lem n (without c r m) ≡ pos 0) → signed_sum_lem (suc n) m ≡ pos 0
+by_column : (n c : ℕ) → c ≤ n → (m : Matrix) → ((r : ℕ) → exact_signed_sum n (without c r m) ≡ pos 0) → exact_signed_sum (suc n) m ≡ pos 0
 by_column n c h m z =
     expansion_column n c h m
     ∙ sum_zero (suc n) (λ r l. ap (λ (w : ℤ). m c r *ℤ (parity c *ℤ parity r *ℤ w)) (z r) ∙ same (var 0 ⊗ (var 1 ⊗ con (pos 0))) (con (pos 0)) tt (at (m c r ∷ (parity c *ℤ parity r) ∷ [])))
 
 -- two equal columns at the order 2
-two_twins : (m : Matrix) → ((r : ℕ) → m 0 r ≡ m 1 r) → signed_sum_lem 2 m ≡ pos 0
-unfolding signed_sum_lem orders sum_over down_rows product
+two_twins : (m : Matrix) → ((r : ℕ) → m 0 r ≡ m 1 r) → exact_signed_sum 2 m ≡ pos 0
+unfolding exact_signed_sum orders sum_over down_rows product
 two_twins m e =
     ap₂ (λ (u v : ℤ). pos 1 *ℤ (m 0 0 *ℤ (u *ℤ pos 1)) +ℤ (negsuc 0 *ℤ (v *ℤ (m 0 1 *ℤ pos 1)) +ℤ pos 0)) (sym (e 1)) (sym (e 0))
     ∙ same (con (pos 1) ⊗ (var 0 ⊗ (var 1 ⊗ con (pos 1))) ⊕ (con (negsuc 0) ⊗ (var 0 ⊗ (var 1 ⊗ con (pos 1))) ⊕ con (pos 0))) (con (pos 0)) tt (at (m 0 0 ∷ m 0 1 ∷ []))
 
 -- the first column equal to another
-first_twin : (n q : ℕ) → q < n → (m : Matrix) → ((r : ℕ) → m 0 r ≡ m (suc q) r) → signed_sum_lem (suc n) m ≡ pos 0
+first_twin : (n q : ℕ) → q < n → (m : Matrix) → ((r : ℕ) → m 0 r ≡ m (suc q) r) → exact_signed_sum (suc n) m ≡ pos 0
 first_twin zero q l m e = absurd (not-suc-le-zero l)
 first_twin (suc zero) zero l m e = two_twins m e
 first_twin (suc zero) (suc q) l m e = absurd (not-suc-le-zero (le_of_suc-le-suc l))
@@ -223,7 +223,7 @@ first_twin (suc (suc n)) (suc q) l m e =
     by_column (suc (suc n)) 1 (suc-le-suc zero-le) m (λ r. first_twin (suc n) q (le_of_suc-le-suc l) (without 1 r m) (λ s. e (skip r s)))
 
 -- a matrix with two equal columns has the signed sum 0
-pub twins : (n c j : ℕ) → c ≤ n → j < n → (m : Matrix) → ((r : ℕ) → m c r ≡ m (skip c j) r) → signed_sum_lem (suc n) m ≡ pos 0
+pub twins : (n c j : ℕ) → c ≤ n → j < n → (m : Matrix) → ((r : ℕ) → m c r ≡ m (skip c j) r) → exact_signed_sum (suc n) m ≡ pos 0
 twins n zero j h l m e = first_twin n j l m e
 twins n (suc c) zero h l m e = first_twin n c h m (λ r. sym (e r))
 twins zero (suc c) (suc j) h l m e = absurd (not-suc-le-zero l)

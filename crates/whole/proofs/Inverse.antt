@@ -10,7 +10,7 @@ use Rattle.whole.proofs.Sum.{sum_ext, sum_mul, sum_swap, sum_δ, δ_flip}
 use Rattle.whole.proofs.Adjugate.{adjugate, adjugate_left, adjugate_right}
 use Rattle.whole.specs.Sum.{sum}
 use Rattle.whole.specs.Matrix.{Matrix, δ, times, IsMultiple}
-use Rattle.whole.specs.Order.{signed_sum_lem}
+use Rattle.whole.specs.Order.{exact_signed_sum}
 
 -- ---- the inverse, times p
 -- u times the adjugate
@@ -18,9 +18,9 @@ abbrev pub numerators : ℕ → ℤ → Matrix → Matrix
 numerators n u m = λ c r. u *ℤ adjugate n m c r
 
 -- a matrix whose signed sum is the unit u times p
-module _ (n : ℕ) (m : Matrix) (u p : ℤ) (unit : u *ℤ u ≡ pos 1) (is : signed_sum_lem n m ≡ u *ℤ p) where
+module _ (n : ℕ) (m : Matrix) (u p : ℤ) (unit : u *ℤ u ≡ pos 1) (is : exact_signed_sum n m ≡ u *ℤ p) where
   -- the unit cancels
-  scaled : (e : ℤ) → u *ℤ (signed_sum_lem n m *ℤ e) ≡ p *ℤ e
+  scaled : (e : ℤ) → u *ℤ (exact_signed_sum n m *ℤ e) ≡ p *ℤ e
   scaled e =
       ap (λ (z : ℤ). u *ℤ (z *ℤ e)) is
       ∙ same (var 0 ⊗ (var 0 ⊗ var 1 ⊗ var 2)) (var 0 ⊗ var 0 ⊗ (var 1 ⊗ var 2)) tt (at (u ∷ p ∷ e ∷ []))

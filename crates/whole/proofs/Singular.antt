@@ -14,7 +14,7 @@ use Rattle.whole.proofs.Expansion.{without, cofactor, signed_sum_zero}
 use Rattle.whole.proofs.Adjugate.{adjugate, cofactors, adjugate_right}
 use Rattle.whole.specs.Sum.{sum}
 use Rattle.whole.specs.Matrix.{Matrix, δ, times, IsMultiple}
-use Rattle.whole.specs.Order.{parity, skip, signed_sum_lem}
+use Rattle.whole.specs.Order.{parity, skip, exact_signed_sum}
 use Rattle.whole.specs.Claim.{ZeroExactlyIf}
 
 -- all terms are 0, or one is not
@@ -54,7 +54,7 @@ module _ (n : ℕ) (m a : Matrix) (k : ℤ) (undone : IsMultiple (suc n) (times 
       multiple x e f = sym (sum_mul (suc n) x (λ l. m l (suc i) *ℤ a e l)) ∙ ap (λ (z : ℤ). x *ℤ z) (undone e (suc i) f (suc-le-suc d))
 
   -- Cramer's rule, for the first column of a
-  cramer : signed_sum_lem (suc n) m *ℤ a 0 c ≡ cofactor n m c 0 *ℤ k
+  cramer : exact_signed_sum (suc n) m *ℤ a 0 c ≡ cofactor n m c 0 *ℤ k
   cramer =
       sym (sum_δ (suc n) c (λ l. S *ℤ a 0 l) (suc-le-suc h))
       ∙ sum_ext (suc n) by_cofactors
@@ -63,7 +63,7 @@ module _ (n : ℕ) (m a : Matrix) (k : ℤ) (undone : IsMultiple (suc n) (times 
       ∙ sum_δ (suc n) 0 (λ r. K c r *ℤ k) (zero-lt-suc n)
     where
       S : ℤ
-      S = signed_sum_lem (suc n) m
+      S = exact_signed_sum (suc n) m
 
       K : Matrix
       K = cofactor n m
@@ -82,16 +82,16 @@ module _ (n : ℕ) (m a : Matrix) (k : ℤ) (undone : IsMultiple (suc n) (times 
           ∙ same (var 0 ⊗ (var 1 ⊗ var 2)) (var 2 ⊗ (var 0 ⊗ var 1)) tt (at (K c r ∷ k ∷ δ 0 r ∷ []))
 
   -- if a 0 c is not 0 and m without its column c and its first row has a signed sum that is not 0, so has m
-  one_order_up : NonZero k → NonZero (a 0 c) → signed_sum_lem n (without c 0 m) ≢ pos 0 → signed_sum_lem (suc n) m ≢ pos 0
+  one_order_up : NonZero k → NonZero (a 0 c) → exact_signed_sum n (without c 0 m) ≢ pos 0 → exact_signed_sum (suc n) m ≢ pos 0
   one_order_up nz some below e =
       not_both (cofactor n m c 0 *ℤ k) (sym cramer ∙ ap (λ (z : ℤ). z *ℤ a 0 c) e ∙ zero-*ℤ (a 0 c))
-      (nonzero_mul (cofactor n m c 0) k (nonzero_mul (parity c *ℤ pos 1) (signed_sum_lem n (without c 0 m)) (nonzero_mul (parity c) (pos 1) (parity_nonzero c) (zero-lt-suc 0)) minor) nz)
+      (nonzero_mul (cofactor n m c 0) k (nonzero_mul (parity c *ℤ pos 1) (exact_signed_sum n (without c 0 m)) (nonzero_mul (parity c) (pos 1) (parity_nonzero c) (zero-lt-suc 0)) minor) nz)
     where
-      minor : NonZero (signed_sum_lem n (without c 0 m))
-      minor = zero_or_not (signed_sum_lem n (without c 0 m)) (λ z. absurd (below z)) (λ d. d)
+      minor : NonZero (exact_signed_sum n (without c 0 m))
+      minor = zero_or_not (exact_signed_sum n (without c 0 m)) (λ z. absurd (below z)) (λ d. d)
 
 -- a matrix that is undone but for a factor that is not 0 has a signed sum that is not 0
-pub undone_nonzero : (n : ℕ) (m a : Matrix) (k : ℤ) → IsMultiple n (times n m a) k → NonZero k → signed_sum_lem n m ≢ pos 0
+pub undone_nonzero : (n : ℕ) (m a : Matrix) (k : ℤ) → IsMultiple n (times n m a) k → NonZero k → exact_signed_sum n m ≢ pos 0
 undone_nonzero zero m a k undone nz e = not_both (pos 1) (sym (signed_sum_zero m) ∙ e) (zero-lt-suc 0)
 undone_nonzero (suc n) m a k undone nz e =
     find (suc n) (a 0) no_column
@@ -109,5 +109,5 @@ undone_nonzero (suc n) m a k undone nz e =
 pub singular : (n : ℕ) (m : Matrix) → ZeroExactlyIf n m
 singular n m = (
   λ e u. zero_or_not u.1 (λ z. u.2 z) (λ nz. undone_nonzero n m u.0 u.1 u.3 nz e),
-  λ none. zero_or_not (signed_sum_lem n m) (λ z. z) (λ nz. absurd (none (adjugate n m, signed_sum_lem n m, (λ z. not_both (signed_sum_lem n m) z nz), adjugate_right n m))),
+  λ none. zero_or_not (exact_signed_sum n m) (λ z. z) (λ nz. absurd (none (adjugate n m, exact_signed_sum n m, (λ z. not_both (exact_signed_sum n m) z nz), adjugate_right n m))),
 )

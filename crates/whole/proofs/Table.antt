@@ -18,7 +18,7 @@ use Rattle.whole.proofs.Sum.{sum_over_map}
 use Rattle.whole.proofs.Orders.{orders_listed}
 use Rattle.whole.specs.Sum.{sum_over}
 use Rattle.whole.specs.Matrix.{Matrix}
-use Rattle.whole.specs.Order.{All, Distinct, sign, down_rows, orders, signed_sum_lem}
+use Rattle.whole.specs.Order.{All, Distinct, sign, down_rows, orders, exact_signed_sum}
 use Rattle.whole.specs.Claim.{ListsOrders, Table, columns, part, table_sum, RightSign, HoldsOrders}
 
 -- ---- rearranged lists
@@ -188,8 +188,8 @@ module _ (n : ℕ) (t : Table) (test : T (holds_orders n t)) where
       }
 
   -- and its sum is the signed sum
-  pub table_total : (m : Matrix) → table_sum m t ≡ signed_sum_lem n m
-  unfolding table_sum signed_sum_lem
+  pub table_total : (m : Matrix) → table_sum m t ≡ exact_signed_sum n m
+  unfolding table_sum exact_signed_sum
   table_total m =
       rearranged_sum (λ row. row.1 *ℤ down_rows m (columns row)) rearranged
       ∙ sum_over_map (λ row. row.1 *ℤ down_rows m (columns row)) signed (orders n)
@@ -218,5 +218,5 @@ pub part_orders : (k : ℕ) (t : Table) → T (holds_parts k t) → (n : ℕ) �
 part_orders k t test n h = table_orders n (part n t) (part_passes k t test n h)
 
 -- and has the signed sum as its sum
-pub part_total : (k : ℕ) (t : Table) → T (holds_parts k t) → (n : ℕ) → n ≤ k → (m : Matrix) → table_sum m (part n t) ≡ signed_sum_lem n m
+pub part_total : (k : ℕ) (t : Table) → T (holds_parts k t) → (n : ℕ) → n ≤ k → (m : Matrix) → table_sum m (part n t) ≡ exact_signed_sum n m
 part_total k t test n h m = table_total n (part n t) (part_passes k t test n h) m

@@ -10,7 +10,7 @@ use Rattle.whole.proofs.Skip.{skip_le}
 use Rattle.whole.proofs.Expansion.{without, cofactor, expansion_first, signed_sum_zero, signed_sum_ext}
 use Rattle.whole.specs.Sum.{sum}
 use Rattle.whole.specs.Matrix.{Matrix}
-use Rattle.whole.specs.Order.{parity, skip, signed_sum_lem}
+use Rattle.whole.specs.Order.{parity, skip, exact_signed_sum}
 
 -- a finite sum of formulas
 abbrev pub sum_formula : ℕ → (ℕ → Formula) → Formula
@@ -29,15 +29,15 @@ sum_formula_is zero f g ζ h = refl
 sum_formula_is (suc n) f g ζ h = ap₂ (λ (u v : ℤ). u +ℤ v) (h 0) (sum_formula_is n (λ i. f (suc i)) (λ i. g (suc i)) ζ (λ i. h (suc i)))
 
 -- the value of a signed sum of formulas
-pub signed_formula_is : (n : ℕ) (m : ℕ → ℕ → Formula) (ζ : ℕ → ℤ) → in_whole ζ (signed_formula n m) ≡ signed_sum_lem n (λ c r. in_whole ζ (m c r))
+pub signed_formula_is : (n : ℕ) (m : ℕ → ℕ → Formula) (ζ : ℕ → ℤ) → in_whole ζ (signed_formula n m) ≡ exact_signed_sum n (λ c r. in_whole ζ (m c r))
 signed_formula_is zero m ζ = sym (signed_sum_zero (λ c r. in_whole ζ (m c r)))
 signed_formula_is (suc n) m ζ =
-    sum_formula_is (suc n) (λ c. con (parity c) ⊗ (m c 0 ⊗ signed_formula n (λ d s. m (skip c d) (suc s)))) (λ c. parity c *ℤ (in_whole ζ (m c 0) *ℤ signed_sum_lem n (λ d s. in_whole ζ (m (skip c d) (suc s))))) ζ
+    sum_formula_is (suc n) (λ c. con (parity c) ⊗ (m c 0 ⊗ signed_formula n (λ d s. m (skip c d) (suc s)))) (λ c. parity c *ℤ (in_whole ζ (m c 0) *ℤ exact_signed_sum n (λ d s. in_whole ζ (m (skip c d) (suc s))))) ζ
     (λ c. ap (λ (z : ℤ). parity c *ℤ (in_whole ζ (m c 0) *ℤ z)) (signed_formula_is n (λ d s. m (skip c d) (suc s)) ζ))
     ∙ sym (expansion_first n (λ c r. in_whole ζ (m c r)))
 
 -- a formula that multiplies out as the signed sum of a matrix of formulas does
-pub written : (n : ℕ) (e : Formula) (m : ℕ → ℕ → Formula) → T (alike e (signed_formula n m)) → (ζ : ℕ → ℤ) → in_whole ζ e ≡ signed_sum_lem n (λ c r. in_whole ζ (m c r))
+pub written : (n : ℕ) (e : Formula) (m : ℕ → ℕ → Formula) → T (alike e (signed_formula n m)) → (ζ : ℕ → ℤ) → in_whole ζ e ≡ exact_signed_sum n (λ c r. in_whole ζ (m c r))
 written n e m test ζ = same e (signed_formula n m) test ζ ∙ signed_formula_is n m ζ
 
 -- ---- entries as variables, column after column
@@ -54,7 +54,7 @@ pub entry_is : (n : ℕ) (m : Matrix) (c r : ℕ) → r < n → in_whole (entrie
 entry_is n m c r h = ap₂ m (digits_div c h) (digits_mod c h)
 
 -- a formula over the entries that multiplies out as the signed sum does is the signed sum
-pub written_entries : (n : ℕ) (e : Formula) → T (alike e (signed_formula n (entry n))) → (m : Matrix) → in_whole (entries n m) e ≡ signed_sum_lem n m
+pub written_entries : (n : ℕ) (e : Formula) → T (alike e (signed_formula n (entry n))) → (m : Matrix) → in_whole (entries n m) e ≡ exact_signed_sum n m
 written_entries n e test m =
     written n e (entry n) test (entries n m)
     ∙ signed_sum_ext n (λ c r. in_whole (entries n m) (entry n c r)) m (λ c r h l. entry_is n m c r l)
@@ -65,13 +65,13 @@ abbrev pub minor_formula : ℕ → ℕ → ℕ → Formula
 minor_formula n c r = signed_formula n (λ d s. entry (suc n) (skip c d) (skip r s))
 
 -- the value of that minor
-pub minor_formula_is : (n c r : ℕ) → r ≤ n → (m : Matrix) → in_whole (entries (suc n) m) (minor_formula n c r) ≡ signed_sum_lem n (without c r m)
+pub minor_formula_is : (n c r : ℕ) → r ≤ n → (m : Matrix) → in_whole (entries (suc n) m) (minor_formula n c r) ≡ exact_signed_sum n (without c r m)
 minor_formula_is n c r h m =
     signed_formula_is n (λ d s. entry (suc n) (skip c d) (skip r s)) (entries (suc n) m)
     ∙ signed_sum_ext n (λ d s. in_whole (entries (suc n) m) (entry (suc n) (skip c d) (skip r s))) (without c r m) (λ d s k l. entry_is (suc n) m (skip c d) (skip r s) (suc-le-suc (skip_le n r s h l)))
 
 -- a formula that multiplies out as that minor does is the minor
-pub written_minor : (n : ℕ) (e : Formula) (c r : ℕ) → r ≤ n → T (alike e (minor_formula n c r)) → (m : Matrix) → in_whole (entries (suc n) m) e ≡ signed_sum_lem n (without c r m)
+pub written_minor : (n : ℕ) (e : Formula) (c r : ℕ) → r ≤ n → T (alike e (minor_formula n c r)) → (m : Matrix) → in_whole (entries (suc n) m) e ≡ exact_signed_sum n (without c r m)
 written_minor n e c r h test m = same e (minor_formula n c r) test (entries (suc n) m) ∙ minor_formula_is n c r h m
 
 -- a formula that multiplies out as a sign times that minor does is the cofactor

@@ -4,7 +4,7 @@ use Rattle.std.specs.Prelude.{◌≡◌, ◌≢◌, ◌↔◌, ℕ, zero, suc, �
 use mathlib.Core.List.{List, map, Memᴰ}
 use Rattle.whole.specs.Sum.{sum_over}
 use Rattle.whole.specs.Matrix.{Matrix, times, IsMultiple}
-use Rattle.whole.specs.Order.{All, Distinct, Order, sign, down_rows, signed_sum_lem}
+use Rattle.whole.specs.Order.{All, Distinct, Order, sign, down_rows, exact_signed_sum}
 
 -- a matrix a of whole numbers and a nonzero k that have m·a = k·identity at the order n
 abbrev pub HasMultiple : ℕ → Matrix → Type 0
@@ -12,7 +12,7 @@ HasMultiple n m = (a : Matrix) × (k : ℤ) × (k ≢ pos 0) × IsMultiple n (ti
 
 -- the signed sum is zero exactly if no such a and k exist
 abbrev pub ZeroExactlyIf : ℕ → Matrix → Type 0
-ZeroExactlyIf n m = (signed_sum_lem n m ≡ pos 0) ↔ ¬ HasMultiple n m
+ZeroExactlyIf n m = (exact_signed_sum n m ≡ pos 0) ↔ ¬ HasMultiple n m
 
 -- the list holds each order of n columns once, and nothing else
 pub record ListsOrders (n : ℕ) (l : List (List ℕ)) : Type 0 where

@@ -69,5 +69,5 @@ orders zero = [] ∷ []
 orders (suc n) = joined (suc n) (λ c. map (lead c) (orders n))
 
 -- the signed sum: over all orders of n columns, the sign times the product down the rows
-unfoldable pub signed_sum_lem : ℕ → Matrix → ℤ
-signed_sum_lem n m = sum_over (λ cs. sign cs *ℤ down_rows m cs) (orders n)
+unfoldable pub exact_signed_sum : ℕ → Matrix → ℤ
+exact_signed_sum n m = sum_over (λ cs. sign cs *ℤ down_rows m cs) (orders n)

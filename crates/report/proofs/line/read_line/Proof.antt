@@ -70,7 +70,7 @@ signed-sum-requires : tie.Need-signed-sum-requires
 signed-sum-requires c κs = record { least = (order_range _ _ _ _ _ c.before.before.before.before.before.before.before.before.before.before.before.blanks.ensures refl c.before.before.before.before.before.before.before.before.before.part_length.ensures c.before.before.before.before.before.before.before.order-of.ensures).least c.before.before.before.before.before.before.if1.false; most = (order_range _ _ _ _ _ c.before.before.before.before.before.before.before.before.before.before.before.blanks.ensures refl c.before.before.before.before.before.before.before.before.before.part_length.ensures c.before.before.before.before.before.before.before.order-of.ensures).most; small = list_small _ _ _ _ _ c.before.before.before.before.before.numbers.ensures (not-false _ c.before.before.if2.false) (order_range _ _ _ _ _ c.before.before.before.before.before.before.before.before.before.before.before.blanks.ensures refl c.before.before.before.before.before.before.before.before.before.part_length.ensures c.before.before.before.before.before.before.before.order-of.ensures).most _ c.before.small-ones.ensures c.if3.false }
 
 returns-4 : tie.Need-returns-4
-returns-4 c = reads_matrix _ _ _ _ (order_range _ _ _ _ _ c.before.before.before.before.before.before.before.before.before.before.before.before.blanks.ensures refl c.before.before.before.before.before.before.before.before.before.before.part_length.ensures c.before.before.before.before.before.before.before.before.order-of.ensures).most _ c.signed_sum_lem.type-inv c.signed_sum_lem.ensures (record { least = (order_range _ _ _ _ _ c.before.before.before.before.before.before.before.before.before.before.before.before.blanks.ensures refl c.before.before.before.before.before.before.before.before.before.before.part_length.ensures c.before.before.before.before.before.before.before.before.order-of.ensures).least c.before.before.before.before.before.before.before.if1.false; most = (order_range _ _ _ _ _ c.before.before.before.before.before.before.before.before.before.before.before.before.blanks.ensures refl c.before.before.before.before.before.before.before.before.before.before.part_length.ensures c.before.before.before.before.before.before.before.before.order-of.ensures).most; small = list_small _ _ _ _ _ c.before.before.before.before.before.before.numbers.ensures (not-false _ c.before.before.before.if2.false) (order_range _ _ _ _ _ c.before.before.before.before.before.before.before.before.before.before.before.before.blanks.ensures refl c.before.before.before.before.before.before.before.before.before.before.part_length.ensures c.before.before.before.before.before.before.before.before.order-of.ensures).most _ c.before.before.small-ones.ensures c.before.if3.false }) (matrix_follows _ _ _ _ _ c.before.before.before.before.before.before.numbers.ensures (not-false _ c.before.before.before.if2.false) (order_range _ _ _ _ _ c.before.before.before.before.before.before.before.before.before.before.before.before.blanks.ensures refl c.before.before.before.before.before.before.before.before.before.before.part_length.ensures c.before.before.before.before.before.before.before.before.order-of.ensures).most _ c.before.before.small-ones.ensures c.before.if3.false ∙ with_order _ _ _ _ _ c.before.before.before.before.before.before.before.before.before.before.before.before.blanks.ensures refl c.before.before.before.before.before.before.before.before.before.before.part_length.ensures c.before.before.before.before.before.before.before.before.order-of.ensures c.before.before.before.before.before.before.before.if1.false)
+returns-4 c = reads_matrix _ _ _ _ (order_range _ _ _ _ _ c.before.before.before.before.before.before.before.before.before.before.before.before.blanks.ensures refl c.before.before.before.before.before.before.before.before.before.before.part_length.ensures c.before.before.before.before.before.before.before.before.order-of.ensures).most _ c.exact_signed_sum.type-inv c.exact_signed_sum.ensures (record { least = (order_range _ _ _ _ _ c.before.before.before.before.before.before.before.before.before.before.before.before.blanks.ensures refl c.before.before.before.before.before.before.before.before.before.before.part_length.ensures c.before.before.before.before.before.before.before.before.order-of.ensures).least c.before.before.before.before.before.before.before.if1.false; most = (order_range _ _ _ _ _ c.before.before.before.before.before.before.before.before.before.before.before.before.blanks.ensures refl c.before.before.before.before.before.before.before.before.before.before.part_length.ensures c.before.before.before.before.before.before.before.before.order-of.ensures).most; small = list_small _ _ _ _ _ c.before.before.before.before.before.before.numbers.ensures (not-false _ c.before.before.before.if2.false) (order_range _ _ _ _ _ c.before.before.before.before.before.before.before.before.before.before.before.before.blanks.ensures refl c.before.before.before.before.before.before.before.before.before.before.part_length.ensures c.before.before.before.before.before.before.before.before.order-of.ensures).most _ c.before.before.small-ones.ensures c.before.if3.false }) (matrix_follows _ _ _ _ _ c.before.before.before.before.before.before.numbers.ensures (not-false _ c.before.before.before.if2.false) (order_range _ _ _ _ _ c.before.before.before.before.before.before.before.before.before.before.before.before.blanks.ensures refl c.before.before.before.before.before.before.before.before.before.before.part_length.ensures c.before.before.before.before.before.before.before.before.order-of.ensures).most _ c.before.before.small-ones.ensures c.before.if3.false ∙ with_order _ _ _ _ _ c.before.before.before.before.before.before.before.before.before.before.before.before.blanks.ensures refl c.before.before.before.before.before.before.before.before.before.before.part_length.ensures c.before.before.before.before.before.before.before.before.order-of.ensures c.before.before.before.before.before.before.before.if1.false)
 
 pub read-line-spec : {M : Type 1} → statement M
 read-line-spec =
