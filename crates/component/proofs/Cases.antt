@@ -7,14 +7,9 @@ use Prim.Native.Nat.{ℕ, ◌+◌, ◌≤◌, ◌<◌}
 use lib.Dec.{leb}
 use lib.ListN.{length}
 use lib.IntN.{ℤ, pos}
-use lib.Ieee.{Float}
 use borrow.Author.Tests.{eq-eqb, ne_eqb, le-leb, lt-leb}
 use Rattle.vector.specs.Refusals.{given, refused_for}
-use Rattle.vector.specs.Vectors.{vector3}
-use Rattle.vector.specs.declared.Vector3.{Vector3}
 use Rattle.vector.specs.declared.refusal.Refusal.TheVariants.{RecordEnds, ScaleFlags, PointNumbers}
-use Rattle.matrix.specs.Records.{matrix3}
-use Rattle.matrix.specs.declared.records.Matrix3.{Matrix3}
 use Rattle.component.specs.Record.{bit, scale_flags, bytes_hold, one_scale_flag, offsets_are_values, short, tiny, offsets, scales, offsets_at, scales_at}
 
 -- ---- the refusals
@@ -24,9 +19,9 @@ module _ (bytes : List ℕ) (at n : ℕ) (found : Bool) (is : found ≡ leb (at 
   unfolding bytes_hold
   bytes_end e = rw (sym is ∙ e)
 
-  pub bytes_hold_lem : found ≡ true → bytes_hold bytes at n ≡ given tt
+  pub bytes_there : found ≡ true → bytes_hold bytes at n ≡ given tt
   unfolding bytes_hold
-  bytes_hold_lem e = rw (sym is ∙ e)
+  bytes_there e = rw (sym is ∙ e)
 
 -- n is the count that the code holds, v the flags that the definition reads
 module _ (flags v n : ℕ) (counted : n ≡ scale_flags flags) (is : flags ≡ v) where
@@ -60,9 +55,9 @@ module _ (bytes : List ℕ) (i flags : ℕ) {x y : ℤ} where
 -- ---- the scales
 
 module _ (bytes : List ℕ) (i flags : ℕ) where
-  pub one_scale_lem : {a d : ℤ} → bit flags 0x0008 ≡ 1 → a ≡ short bytes i → d ≡ short bytes i → scales a (pos 0) (pos 0) d ≡ scales_at bytes i flags
+  pub single_scale : {a d : ℤ} → bit flags 0x0008 ≡ 1 → a ≡ short bytes i → d ≡ short bytes i → scales a (pos 0) (pos 0) d ≡ scales_at bytes i flags
   unfolding scales_at
-  one_scale_lem e p q = rw (eq-eqb (bit flags 0x0008) 1 e, p, q)
+  single_scale e p q = rw (eq-eqb (bit flags 0x0008) 1 e, p, q)
 
   module _ (not-one : bit flags 0x0008 ≡ 1 → ⊥) where
     pub two_scales : {a d : ℤ} → bit flags 0x0040 ≡ 1 → a ≡ short bytes i → d ≡ short bytes (i + 2) → scales a (pos 0) (pos 0) d ≡ scales_at bytes i flags
@@ -70,21 +65,11 @@ module _ (bytes : List ℕ) (i flags : ℕ) where
     two_scales e p q = rw (ne_eqb (bit flags 0x0008) 1 not-one, eq-eqb (bit flags 0x0040) 1 e, p, q)
 
     module _ (not-two : bit flags 0x0040 ≡ 1 → ⊥) where
-      pub four_numbers_lem : {a b c d : ℤ} → bit flags 0x0080 ≡ 1 → a ≡ short bytes i → b ≡ short bytes (i + 2) → c ≡ short bytes (i + 4) → d ≡ short bytes (i + 6)
+      pub four_scales : {a b c d : ℤ} → bit flags 0x0080 ≡ 1 → a ≡ short bytes i → b ≡ short bytes (i + 2) → c ≡ short bytes (i + 4) → d ≡ short bytes (i + 6)
           → scales a b c d ≡ scales_at bytes i flags
       unfolding scales_at
-      four_numbers_lem e p q r s = rw (ne_eqb (bit flags 0x0008) 1 not-one, ne_eqb (bit flags 0x0040) 1 not-two, eq-eqb (bit flags 0x0080) 1 e, p, q, r, s)
+      four_scales e p q r s = rw (ne_eqb (bit flags 0x0008) 1 not-one, ne_eqb (bit flags 0x0040) 1 not-two, eq-eqb (bit flags 0x0080) 1 e, p, q, r, s)
 
       pub no_scale : (bit flags 0x0080 ≡ 1 → ⊥) → scales (pos 16384) (pos 0) (pos 0) (pos 16384) ≡ scales_at bytes i flags
       unfolding scales_at
       no_scale ne = rw (ne_eqb (bit flags 0x0008) 1 not-one, ne_eqb (bit flags 0x0040) 1 not-two, ne_eqb (bit flags 0x0080) 1 ne)
-
--- ---- the matrix
-
--- a column from its two numbers
-pub column : {v : Vector3} {x y : Float} {z : Float} (x' y' : Float) → v ≡ vector3 x y z → x ≡ x' → y ≡ y' → v ≡ vector3 x' y' z
-column x' y' is a b = is ∙ rw (a, b)
-
--- the matrix from its columns
-pub columns : {m : Matrix3} {a b c : Vector3} (a' b' c' : Vector3) → m ≡ matrix3 a b c → a ≡ a' → b ≡ b' → c ≡ c' → m ≡ matrix3 a' b' c'
-columns a' b' c' is p q r = is ∙ rw (p, q, r)

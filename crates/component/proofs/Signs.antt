@@ -32,7 +32,7 @@ module _ (bits n v : ℕ) (is : n ≡ v) where
     itself = to_z_pos w32 n (omega arith)
 
     -- the difference fits
-    pub fits : SFits w32 (to_z w32 n -ℤ pos (2 ^ bits))
+    fits : SFits w32 (to_z w32 n -ℤ pos (2 ^ bits))
     fits = rw itself (record { sfits = gap n (2 ^ bits) within few })
 
     -- and from the half on it is what the number stands for

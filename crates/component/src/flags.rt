@@ -9,7 +9,7 @@ use crate::bytes::{hold, word_at};
 use vector::Refusal;
 
 // The flags of a record, or the cause of a refusal and no flags.
-#[derive(Drop)]
+#[derive(Clone, Copy)]
 pub(crate) enum FlagsAnswer {
     Given(u16),
     Refused(Refusal),

@@ -1,5 +1,7 @@
 // Component records of OpenType glyf composites, read into matrices: document 02, No. 2, 'Read component records'.
 // The answer equals its definition in specs/; the public function does not rely on its caller.
+#![tactic(auto)]
+
 mod bytes;
 mod flags;
 pub mod numbers;
@@ -14,7 +16,7 @@ use matrix::Matrix3;
 use vector::Refusal;
 
 // One component: which glyph is borrowed, and through which matrix.
-#[derive(Drop)]
+#[derive(Clone, Copy)]
 pub struct Component {
     // The flags as they stand in the record.
     pub flags: u16,
@@ -27,7 +29,7 @@ pub struct Component {
 }
 
 // What reading a component answers.
-#[derive(Drop)]
+#[derive(Clone, Copy)]
 pub enum ComponentAnswer {
     Given(Component),
     Refused(Refusal),

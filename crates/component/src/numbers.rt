@@ -7,14 +7,14 @@ use matrix::Matrix3;
 use vector::Vector3;
 
 // The two offsets, in font units.
-#[derive(Drop)]
+#[derive(Clone, Copy)]
 pub struct Offsets {
     pub dx: i32,
     pub dy: i32,
 }
 
 // The linear part, in 16384ths.
-#[derive(Drop)]
+#[derive(Clone, Copy)]
 pub struct Scales {
     pub xscale: i32,
     pub scale01: i32,
