@@ -1,4 +1,6 @@
 // The 64-bit pattern of a number and back, every NaN as one pattern: for the programs that compare bit for bit.
+#![tactic(auto)]
+
 ghost use Rattle.std.specs.Prelude.{◌≡◌, eqb};
 ghost use Rattle.std.specs.Float.{binary64};
 ghost use Rattle.std.specs.Float.Ieee.{of_bits, to_bits};

@@ -1,19 +1,20 @@
 // Of the records' constants (document 01, 'Rules of the arithmetic') their orders, since the list has zero and identity; and the number
-// and the place of each cause of a refusal (document 01, 'The numbers a refusal carries', and document 02, No. 1, 'Say column or row', and No. 2, 'Read component records').
+// and the place of each cause of a refusal (document 01, 'The numbers a refusal carries', and document 02, No. 1, 'Say column or row').
 use crate::count::Count;
 use matrix::{Matrix2, Matrix3, Matrix4};
+use std::io;
 use vector::{Place, Placed, Refusal};
 
 // Every case of this file.
-pub(crate) fn run(c: Count) -> Count {
-    refusals(orders(c))
+pub(crate) fn run(rt: &impl Print, c: Count) -> io::Result<Count> {
+    refusals(rt, orders(rt, c)?)
 }
 
 // The order of each record.
-fn orders(c: Count) -> Count {
-    let c = c.case(b"Matrix2::order", Matrix2::order() == 2);
-    let c = c.case(b"Matrix3::order", Matrix3::order() == 3);
-    c.case(b"Matrix4::order", Matrix4::order() == 4)
+fn orders(rt: &impl Print, c: Count) -> io::Result<Count> {
+    let c = c.case(rt, b"Matrix2::order", Matrix2::order() == 2)?;
+    let c = c.case(rt, b"Matrix3::order", Matrix3::order() == 3)?;
+    c.case(rt, b"Matrix4::order", Matrix4::order() == 4)
 }
 
 // Which place this is: 0 for none, 1 for the first, 2 for the second.
@@ -36,29 +37,34 @@ fn says(cause: Refusal, number: u32, place: u32) -> bool {
 }
 
 // The number and the place of each cause.
-fn refusals(c: Count) -> Count {
+fn refusals(rt: &impl Print, c: Count) -> io::Result<Count> {
     let c = c.case(
+        rt,
         b"refusal 11, first",
         says(Refusal::Column(Place::First), 11, 1),
-    );
+    )?;
     let c = c.case(
+        rt,
         b"refusal 11, second",
         says(Refusal::Column(Place::Second), 11, 2),
-    );
+    )?;
     let c = c.case(
+        rt,
         b"refusal 12, first",
         says(Refusal::Row(Place::First), 12, 1),
-    );
+    )?;
     let c = c.case(
+        rt,
         b"refusal 12, second",
         says(Refusal::Row(Place::Second), 12, 2),
-    );
-    let c = c.case(b"refusal 2, no place", says(Refusal::Singular, 2, 0));
-    let c = c.case(b"refusal 3, no place", says(Refusal::InputLength, 3, 0));
-    let c = c.case(b"refusal 4, no place", says(Refusal::OutputLength, 4, 0));
-    let c = c.case(b"refusal 5, no place", says(Refusal::Order, 5, 0));
-    let c = c.case(b"refusal 6, no place", says(Refusal::NotWhole, 6, 0));
-    let c = c.case(b"refusal 20, no place", says(Refusal::RecordEnds, 20, 0));
-    let c = c.case(b"refusal 21, no place", says(Refusal::ScaleFlags, 21, 0));
-    c.case(b"refusal 22, no place", says(Refusal::PointNumbers, 22, 0))
+    )?;
+    let c = c.case(rt, b"refusal 2, no place", says(Refusal::Singular, 2, 0))?;
+    let c = c.case(rt, b"refusal 3, no place", says(Refusal::InputLength, 3, 0))?;
+    let c = c.case(
+        rt,
+        b"refusal 4, no place",
+        says(Refusal::OutputLength, 4, 0),
+    )?;
+    let c = c.case(rt, b"refusal 5, no place", says(Refusal::Order, 5, 0))?;
+    c.case(rt, b"refusal 6, no place", says(Refusal::NotWhole, 6, 0))
 }

@@ -1,5 +1,5 @@
 // How many cases ran and how many of them failed.
-use libc::STDOUT_FILENO;
+use std::io;
 
 // The two counts.
 #[derive(Drop)]
@@ -15,29 +15,28 @@ impl Count {
     }
 
     // One case more; its name is written, and whether its answer was the expected one.
-    pub(crate) fn case(self, name: &[u8], holds: bool) -> Count {
-        io::write_all(STDOUT_FILENO, name);
-        let run = std::num::wrapping_add_u32(self.run, 1);
+    pub(crate) fn case(self, rt: &impl Print, name: &[u8], holds: bool) -> io::Result<Count> {
+        rt.write_all(name)?;
+        let run = self.run.wrapping_add(1);
         if holds {
-            io::write_all(STDOUT_FILENO, b": ok\n");
-            Count {
+            rt.write_all(b": ok\n")?;
+            Ok(Count {
                 run,
                 failed: self.failed,
-            }
+            })
         } else {
-            io::write_all(STDOUT_FILENO, b": FAILED\n");
-            Count {
+            rt.write_all(b": FAILED\n")?;
+            Ok(Count {
                 run,
-                failed: std::num::wrapping_add_u32(self.failed, 1),
-            }
+                failed: self.failed.wrapping_add(1),
+            })
         }
     }
 
     // The counts on a line.
-    pub(crate) fn print(self) {
-        io::print_decimal(STDOUT_FILENO, self.run as u64);
-        io::write_all(STDOUT_FILENO, b" cases run, ");
-        io::print_decimal(STDOUT_FILENO, self.failed as u64);
-        io::write_all(STDOUT_FILENO, b" failed\n");
+    pub(crate) fn print(self, rt: &impl Print) -> io::Result<()> {
+        let run = self.run;
+        let failed = self.failed;
+        println!(rt; "{run} cases run, {failed} failed")
     }
 }

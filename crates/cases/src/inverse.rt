@@ -2,6 +2,7 @@
 use crate::count::Count;
 use engine::NumberAnswer;
 use matrix::{Matrix2, Matrix2Answer, Matrix4, Matrix4Answer};
+use std::io;
 use vector::Vector4;
 
 // A matrix of whole entries to 1024, of sum 2^41.
@@ -13,15 +14,19 @@ const STEEP: [[f64; 4]; 4] = [
 ];
 
 // Every case of this file.
-pub(crate) fn run(c: Count) -> Count {
-    past_the_limit(underflow(c))
+pub(crate) fn run(rt: &impl Print, c: Count) -> io::Result<Count> {
+    past_the_limit(rt, underflow(rt, c)?)
 }
 
 // The diagonal of 1e-200: the float determinant underflows to 0.
-fn underflow(c: Count) -> Count {
+fn underflow(rt: &impl Print, c: Count) -> io::Result<Count> {
     let m = Matrix2::new(1.0e-200, 0.0, 0.0, 1.0e-200);
-    let c = c.case(b"determinant of 1e-200", bits::same(m.determinant(), 0.0));
-    c.case(b"inverse of 1e-200 refused", singular(m.invert()))
+    let c = c.case(
+        rt,
+        b"determinant of 1e-200",
+        bits::same(m.determinant(), 0.0),
+    )?;
+    c.case(rt, b"inverse of 1e-200 refused", singular(m.invert()))
 }
 
 // Whether the inverse was refused with 2.
@@ -33,16 +38,17 @@ fn singular(answer: Matrix2Answer) -> bool {
 }
 
 // At order 4 a vector with entries to 64 comes back, and one with larger entries need not.
-fn past_the_limit(c: Count) -> Count {
+fn past_the_limit(rt: &impl Print, c: Count) -> io::Result<Count> {
     let m = Matrix4::from_array(STEEP);
     let c = c.case(
+        rt,
         b"signed sum of 2^41",
         gives(engine::signed_sum4(m), 2199023255552),
-    );
+    )?;
     let near = Vector4::new(-64.0, -63.0, 64.0, 61.0);
-    let c = c.case(b"there and back within 64", comes_back(m, near));
+    let c = c.case(rt, b"there and back within 64", comes_back(m, near))?;
     let far = Vector4::new(-931.0, -941.0, 947.0, 923.0);
-    c.case(b"not back past 64", !comes_back(m, far))
+    c.case(rt, b"not back past 64", !comes_back(m, far))
 }
 
 // Whether the engine gives this whole number.

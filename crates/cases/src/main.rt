@@ -1,5 +1,7 @@
 // Runs what document 01, 'Reference cases, both sides of each edge', wants run and what the list of `replay` can't hold: constants, magnitudes, the way
 // there and back, every refusal of a bulk move, reports. Expected values come from there or are worked out by hand, on numbers where every step is exact.
+#![tactic(auto)]
+
 mod constants;
 mod count;
 mod inverse;
@@ -8,12 +10,13 @@ mod moves;
 mod reports;
 
 use count::Count;
+use std::io;
 
-fn main() {
-    let c = constants::run(Count::new());
-    let c = magnitudes::run(c);
-    let c = inverse::run(c);
-    let c = moves::run(c);
-    let c = reports::run(c);
-    c.print();
+fn main(rt: HostRuntime) -> io::Result<()> {
+    let c = constants::run(&rt, Count::new())?;
+    let c = magnitudes::run(&rt, c)?;
+    let c = inverse::run(&rt, c)?;
+    let c = moves::run(&rt, c)?;
+    let c = reports::run(&rt, c)?;
+    c.print(&rt)
 }

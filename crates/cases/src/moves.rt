@@ -4,7 +4,7 @@ ghost use Rattle.std.specs.Prelude.{◌≤◌};
 
 use crate::count::Count;
 use bulk::Moved;
-use libc::STDOUT_FILENO;
+use std::io;
 
 // How many numbers there are to hand over, and how many places in the output: as many as two digits can say.
 const ROOM: usize = 99;
@@ -137,12 +137,12 @@ pub struct Row {
 }
 
 // Every row.
-pub(crate) fn run(c: Count) -> Count {
+pub(crate) fn run(rt: &impl Print, c: Count) -> io::Result<Count> {
     let mut all = c;
     for i in 0..108 {
-        all = row_case(all, read(ROWS[i]));
+        all = row_case(rt, all, read(ROWS[i]))?;
     }
-    all
+    Ok(all)
 }
 
 // The numbers of a row, of which three have two digits.
@@ -172,10 +172,10 @@ fn digits(n: u32) -> usize
 }
 
 // A row's case: its name, the move, and what the move answers and leaves.
-fn row_case(c: Count, row: Row) -> Count
+fn row_case(rt: &impl Print, c: Count, row: Row) -> io::Result<Count>
     requires { (row.matrix ≤ 99) × (row.input ≤ 99) × (row.output ≤ 99) }
 {
-    title(row);
+    title(rt, &row)?;
     let order = row.order as usize;
     let matrix = row.matrix;
     let input = row.input;
@@ -188,39 +188,26 @@ fn row_case(c: Count, row: Row) -> Count
     } else {
         bulk::move_points(order, &m[..matrix], &v[..input], &mut out[..output])
     };
-    c.case(b"", holds(answer, &out, row))
+    c.case(rt, b"", holds(answer, &out, &row))
 }
 
 // The name of a row's case.
-fn title(row: Row) {
+fn title(rt: &impl Print, row: &Row) -> io::Result<()> {
     if row.points == 0 {
-        text(b"move_vectors: order ");
+        print!(rt; "move_vectors")?;
     } else {
-        text(b"move_points: order ");
+        print!(rt; "move_points")?;
     }
-    number(row.order as usize);
-    text(b", matrix of ");
-    number(row.matrix);
-    text(b", ");
-    number(row.input);
-    text(b" in, ");
-    number(row.output);
-    text(b" out, refusal ");
-    number(row.refusal as usize);
-}
-
-// These bytes.
-fn text(bytes: &[u8]) {
-    io::write_all(STDOUT_FILENO, bytes);
-}
-
-// This number.
-fn number(n: usize) {
-    io::print_decimal(STDOUT_FILENO, n as u64);
+    let order = row.order;
+    let matrix = row.matrix;
+    let input = row.input;
+    let output = row.output;
+    let refusal = row.refusal;
+    print!(rt; ": order {order}, matrix of {matrix}, {input} in, {output} out, refusal {refusal}")
 }
 
 // Whether a move did what its row says: done, with the order written to the whole output, or refused, with nothing written.
-fn holds(answer: Moved, out: &[f64; ROOM], row: Row) -> bool {
+fn holds(answer: Moved, out: &[f64; ROOM], row: &Row) -> bool {
     match answer {
         Moved::Done => row.refusal == 0 && leaves(out, row.output, row.order as f64),
         Moved::Refused(cause) => cause.number() == row.refusal && leaves(out, 0, BEFORE),

@@ -1,6 +1,6 @@
 // Reports of good and bad lines. Each is written out whole, and the stored output holds what it must be: tools/reports.py worked it out.
 use crate::count::Count;
-use libc::STDOUT_FILENO;
+use std::io;
 
 // What stands in the output before.
 const BEFORE: u8 = 7;
@@ -109,31 +109,29 @@ fn cut(line: &[u8], long: &[u8]) -> bool {
 }
 
 // A line and its report; a report is longer than 40 bytes, and what comes after it is unchanged.
-fn case(c: Count, line: &[u8]) -> Count {
-    io::write_all(STDOUT_FILENO, b"comesback ");
-    io::write_all(STDOUT_FILENO, line);
-    io::write_all(STDOUT_FILENO, b"\n");
+fn case(rt: &impl Print, c: Count, line: &[u8]) -> io::Result<Count> {
+    rt.write_all(b"comesback ")?;
+    rt.write_all(line)?;
+    rt.write_all(b"\n")?;
     let mut out = [BEFORE; 1024];
     let n = report::report(line, &mut out);
-    io::write_all(STDOUT_FILENO, &out[..n]);
+    rt.write_all(&out[..n])?;
     if unchanged(&out, n) {
-        return c.case(b"report", cut(line, &out));
+        return c.case(rt, b"report", cut(line, &out));
     }
-    c.case(b"report", false)
+    c.case(rt, b"report", false)
 }
 
 // The case of a row.
-fn row_case(c: Count, row: [u8; 49]) -> Count {
-    case(c, line(&row))
+fn row_case(rt: &impl Print, c: Count, row: [u8; 49]) -> io::Result<Count> {
+    case(rt, c, line(&row))
 }
 
 // Every line.
-pub(crate) fn run(c: Count) -> Count {
+pub(crate) fn run(rt: &impl Print, c: Count) -> io::Result<Count> {
     let mut all = c;
-    let mut i: usize = 0;
-    while i < 49 {
-        all = row_case(all, LINES[i]);
-        i += 1;
+    for i in 0..49 {
+        all = row_case(rt, all, LINES[i])?;
     }
-    all
+    Ok(all)
 }

@@ -2,47 +2,56 @@
 ghost use Rattle.std.specs.Prelude.{◌≤◌, ◌≡◌, length, take};
 
 use crate::output;
+use std::env::FillError;
+use std::rt::Env;
+
+// How many words the command has, the program's name among them.
+pub(crate) fn count(rt: &impl Env) -> usize {
+    let mut nothing = [0u8; 0];
+    for i in 0..usize::MAX {
+        if let Err(FillError::NotPresent) = rt.arg(i, &mut nothing) {
+            return i;
+        }
+    }
+    usize::MAX
+}
 
 // A word more: the next place, or the line's length where there was not room for it.
-fn add(line: &mut [u8], at: usize, i: usize) -> usize
+fn add(rt: &impl Env, line: &mut [u8], at: usize, i: usize) -> usize
     ensures { result ≤ length line.new }
 {
-    let mut word = io::large_buffer();
-    let n = os::arg(i, &mut word);
-    if os::errno() != 0 {
-        return line.len();
+    let mut word = [0u8; 65536];
+    match rt.arg(i, &mut word) {
+        Ok(n) => report::add_word(line, at, &word[..n]),
+        Err(_) => line.len(),
     }
-    report::add_word(line, at, &word[..n])
 }
 
 // The words of the command.
-fn join(line: &mut [u8]) -> usize
+fn join(rt: &impl Env, line: &mut [u8]) -> usize
     ensures { (result ≤ length line.new) × (result ≡ length (take result line.new)) }
 {
-    let count = os::arg_count();
     let mut at: usize = 0;
-    let mut i: usize = 1;
-    while i < count {
-        at = add(line, at, i);
-        i += 1;
+    for i in 1..count(rt) {
+        at = add(rt, line, at, i);
     }
     at
 }
 
 // The report of the words.
-fn print(line: &[u8]) {
-    let mut out = io::buffer();
+fn print(rt: &(impl Print + Eprint), line: &[u8]) {
+    let mut out = [0u8; 4096];
     let n = report::report(line, &mut out);
-    output::put(&out[..n]);
+    output::put(rt, &out[..n]);
 }
 
 // The answer to the words of the command.
-pub(crate) fn answer() {
-    let mut line = io::large_buffer();
-    let n = join(&mut line);
+pub(crate) fn answer(rt: &(impl Env + Print + Eprint)) {
+    let mut line = [0u8; 65536];
+    let n = join(rt, &mut line);
     if n == line.len() {
-        output::put(b"expected words of fewer than 65536 bytes in all\n");
+        output::put(rt, b"expected words of fewer than 65536 bytes in all\n");
     } else {
-        print(&line[..n]);
+        print(rt, &line[..n]);
     }
 }

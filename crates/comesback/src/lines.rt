@@ -2,8 +2,8 @@
 ghost use Rattle.std.specs.Prelude.{◌≤◌, length};
 
 use crate::output;
-use libc::STDIN_FILENO;
 use report::{Totals, Verdict};
+use std::io::Read;
 
 // The line that is being read: how many of its bytes there are, whether it has more than there is room for; and the totals so far.
 #[derive(Drop)]
@@ -25,38 +25,38 @@ fn start(totals: Totals) -> Progress
 }
 
 // The verdict on a line.
-fn tell(line: &[u8], totals: Totals) -> Totals {
-    let mut out = io::buffer();
+fn tell(rt: &(impl Print + Eprint), line: &[u8], totals: Totals) -> Totals {
+    let mut out = [0u8; 4096];
     let n = report::verdict_line(line, &mut out);
-    output::put(&out[..n]);
+    output::put(rt, &out[..n]);
     totals.counted(report::verdict_of(line))
 }
 
 // The verdict on a line that has more bytes than there is room for.
-fn tell_long(totals: Totals) -> Totals {
-    output::put(b"expected a line of at most 4096 bytes\n");
+fn tell_long(rt: &(impl Print + Eprint), totals: Totals) -> Totals {
+    output::put(rt, b"expected a line of at most 4096 bytes\n");
     totals.counted(Verdict::NotRead)
 }
 
 // The end of a line.
-fn end(line: &[u8], read: Progress) -> Progress
+fn end(rt: &(impl Print + Eprint), line: &[u8], read: Progress) -> Progress
     requires { read.at ≤ length line.now }
     ensures { result.at ≤ 0 }
 {
     let totals = read.totals;
     if read.long {
-        return start(tell_long(totals));
+        return start(tell_long(rt, totals));
     }
-    start(tell(&line[..read.at], totals))
+    start(tell(rt, &line[..read.at], totals))
 }
 
 // A byte of the input.
-fn byte(line: &mut [u8], read: Progress, value: u8) -> Progress
+fn byte(rt: &(impl Print + Eprint), line: &mut [u8], read: Progress, value: u8) -> Progress
     requires { read.at ≤ length line.old }
     ensures { result.at ≤ length line.new }
 {
     if value == b'\n' {
-        return end(line, read);
+        return end(rt, line, read);
     }
     let at = read.at;
     let totals = read.totals;
@@ -76,55 +76,52 @@ fn byte(line: &mut [u8], read: Progress, value: u8) -> Progress
 }
 
 // Bytes of the input, one after the other.
-fn bytes(line: &mut [u8], read: Progress, input: &[u8]) -> Progress
+fn bytes(rt: &(impl Print + Eprint), line: &mut [u8], read: Progress, input: &[u8]) -> Progress
     requires { read.at ≤ length line.old }
     ensures { result.at ≤ length line.new }
 {
     let mut progress = read;
-    let mut i = 0;
-    while i < input.len() {
-        progress = byte(line, progress, input[i]);
-        i += 1;
+    for value in input {
+        progress = byte(rt, line, progress, *value);
     }
     progress
 }
 
 // The totals, after a last line that nothing ends.
-fn finish(line: &[u8], read: Progress)
+fn finish(rt: &(impl Print + Eprint), line: &[u8], read: Progress)
     requires { read.at ≤ length line.now }
 {
     let mut last = read;
     if 0 < last.at {
-        last = end(line, last);
+        last = end(rt, line, last);
     }
-    let mut out = io::buffer();
+    let mut out = [0u8; 4096];
     let n = report::totals_line(last.totals, &mut out);
-    output::put(&out[..n]);
+    output::put(rt, &out[..n]);
 }
 
 // Reads all of the input, and answers it.
-fn read_all(line: &mut [u8]) {
-    let mut chunk = io::large_buffer();
+fn read_all(rt: &(impl Input + Print + Eprint), line: &mut [u8]) {
+    let mut input = rt.reader();
+    let mut chunk = [0u8; 65536];
     let mut read = start(Totals::none());
-    let mut turns = u64::MAX;
-    while turns > 0 {
-        let got = libc::read(STDIN_FILENO, &mut chunk);
-        if got < 0 {
-            os::fail(b"standard input");
-            return;
+    for _ in 0..u64::MAX {
+        match input.read(&mut chunk) {
+            Ok(0) => {
+                finish(rt, line, read);
+                return;
+            }
+            Ok(n) => read = bytes(rt, line, read, &chunk[..n]),
+            Err(error) => {
+                output::fail(rt, "standard input", error);
+                return;
+            }
         }
-        if got == 0 {
-            finish(line, read);
-            return;
-        }
-        let n = io::count(got, &chunk);
-        read = bytes(line, read, &chunk[..n]);
-        turns -= 1;
     }
 }
 
 // The answer to standard input.
-pub(crate) fn answer() {
-    let mut line = io::buffer();
-    read_all(&mut line);
+pub(crate) fn answer(rt: &(impl Input + Print + Eprint)) {
+    let mut line = [0u8; 4096];
+    read_all(rt, &mut line);
 }

@@ -2,43 +2,50 @@
 // The table is standard input, the file stdin beside this folder, which says what its lines hold; the C program and the Rust crate's tests read
 // it too. What it expects of a record is not looked at here: the gate compares what is written with the file stdout, and
 // tools/components.py that file with the table.
+#![tactic(auto)]
+
 mod read;
 mod write;
 
-use libc::STDIN_FILENO;
+use std::io;
+use std::io::Read;
 
-fn main() {
-    let mut buffer = io::large_buffer();
-    let n = io::read_full(STDIN_FILENO, &mut buffer);
-    lines(&buffer[..n]);
+// How many bytes of the table are read at most.
+const LENGTH: u64 = 65536;
+
+fn main(rt: HostRuntime) -> io::Result<()> {
+    let mut table = Vec::new(rt.alloc());
+    rt.reader().take(LENGTH).read_to_end(&mut table)?;
+    lines(&rt, &table)
 }
 
 // Every line of the table.
-fn lines(table: &[u8]) {
+fn lines(rt: &impl Print, table: &[u8]) -> io::Result<()> {
     let mut from = 0;
     while from < table.len() {
         let end = read::until(table, from, b'\n');
-        line(&table[from..end]);
+        line(rt, &table[from..end])?;
         from = read::behind(table, end);
     }
+    Ok(())
 }
 
 // One line: a name, a place, the bytes of a record. A line that starts with # holds words for people.
-fn line(text: &[u8]) {
+fn line(rt: &impl Print, text: &[u8]) -> io::Result<()> {
     let name = read::until(text, 0, b' ');
     if name == 0 {
-        return;
+        return Ok(());
     }
     if text[0] == b'#' {
-        return;
+        return Ok(());
     }
     let from = read::behind(text, name);
     let place = read::until(text, from, b' ');
     let start = read::behind(text, place);
     let end = read::until(text, start, b' ');
-    let mut bytes = io::buffer();
+    let mut bytes = [0u8; 4096];
     let n = read::hexadecimal(&text[start..end], &mut bytes);
     let answer = component::read(&bytes[..n], read::decimal(&text[from..place]));
-    write::name(&text[0..name]);
-    write::answer(answer);
+    write::name(rt, &text[0..name])?;
+    write::answer(rt, answer)
 }

@@ -1,55 +1,50 @@
 // What a record gives, on one line: 0, its flags in hexadecimal, glyph index, place after it, and the nine entries of its matrix, column by
 // column, each as its 64-bit pattern; or the number of the refusal.
 use component::{Component, ComponentAnswer};
-use libc::STDOUT_FILENO;
+use std::io;
 use vector::Vector3;
 
 // The name of the record.
-pub(crate) fn name(text: &[u8]) {
-    io::write_all(STDOUT_FILENO, text);
+pub(crate) fn name(rt: &impl Print, text: &[u8]) -> io::Result<()> {
+    rt.write_all(text)
 }
 
 // What it gives.
-pub(crate) fn answer(found: ComponentAnswer) {
+pub(crate) fn answer(rt: &impl Print, found: ComponentAnswer) -> io::Result<()> {
     match found {
-        ComponentAnswer::Refused(cause) => {
-            number(cause.number() as u64);
-        }
-        ComponentAnswer::Given(c) => {
-            given(c);
-        }
+        ComponentAnswer::Refused(cause) => number(rt, cause.number() as u64)?,
+        ComponentAnswer::Given(c) => given(rt, c)?,
     }
-    io::write_all(STDOUT_FILENO, b"\n");
+    println!(rt; "")
 }
 
 // A number behind a space.
-fn number(n: u64) {
-    io::write_all(STDOUT_FILENO, b" ");
-    io::print_decimal(STDOUT_FILENO, n);
+fn number(rt: &impl Print, n: u64) -> io::Result<()> {
+    print!(rt; " {n}")
 }
 
 // A component.
-fn given(c: Component) {
-    number(0);
-    io::write_all(STDOUT_FILENO, b" 0x");
-    io::print_hex(STDOUT_FILENO, c.flags as u64, 4);
-    number(c.index as u64);
-    number(c.after as u64);
+fn given(rt: &impl Print, c: Component) -> io::Result<()> {
+    number(rt, 0)?;
+    let flags = c.flags;
+    print!(rt; " 0x{flags:04x}")?;
+    number(rt, c.index as u64)?;
+    number(rt, c.after as u64)?;
     let m = c.matrix;
-    column(m.x);
-    column(m.y);
-    column(m.z);
+    column(rt, m.x)?;
+    column(rt, m.y)?;
+    column(rt, m.z)
 }
 
 // Three entries.
-fn column(v: Vector3) {
-    entry(v.x);
-    entry(v.y);
-    entry(v.z);
+fn column(rt: &impl Print, v: Vector3) -> io::Result<()> {
+    entry(rt, v.x)?;
+    entry(rt, v.y)?;
+    entry(rt, v.z)
 }
 
 // An entry, as its pattern.
-fn entry(x: f64) {
-    io::write_all(STDOUT_FILENO, b" ");
-    io::print_hex(STDOUT_FILENO, bits::pattern(x), 16);
+fn entry(rt: &impl Print, x: f64) -> io::Result<()> {
+    let pattern = bits::pattern(x);
+    print!(rt; " {pattern:016x}")
 }

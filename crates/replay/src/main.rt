@@ -1,5 +1,7 @@
 // Replays the fixed list of an oracle's answers: each line's operation is done by our own function,
 // and what that answers is compared bit for bit with what the line says.
+#![tactic(auto)]
+
 mod answer;
 mod arithmetic;
 mod builders;
@@ -17,33 +19,28 @@ mod vectors;
 mod whole;
 mod words;
 
-use libc::{STDIN_FILENO, STDOUT_FILENO};
 use line::replayed;
 use list::line_end;
+use std::io;
+use std::io::Read;
 use tally::Tally;
 
 // How many bytes of the list are read at most.
-const LENGTH: usize = 2097152;
+const LENGTH: u64 = 2097152;
 
 // Reads the list from the standard input, and writes the report.
-fn main() {
-    let mut text = [0u8; LENGTH];
-    read_array(&mut text);
+fn main(rt: HostRuntime) -> io::Result<()> {
+    let mut text = Vec::new(rt.alloc());
+    rt.reader().take(LENGTH).read_to_end(&mut text)?;
+    read_slice(&rt, &text)
 }
 
-// The same, with room for the list.
-fn read_array(text: &mut [u8; LENGTH]) {
-    read_slice(text);
-}
-
-// The same, with room of any length.
-fn read_slice(text: &mut [u8]) {
-    let n = io::read_full(STDIN_FILENO, text);
-    if n == text.len() {
-        io::write_all(STDOUT_FILENO, b"the list is too long\n");
-        return;
+// The report of a list that was read, unless there may be more of it.
+fn read_slice(rt: &impl Print, text: &[u8]) -> io::Result<()> {
+    if text.len() as u64 == LENGTH {
+        return rt.write_all(b"the list is too long\n");
     }
-    report::report(counted(&text[..n]));
+    report::report(rt, &counted(text))
 }
 
 // What the lines come to.

@@ -1,67 +1,67 @@
 // Writes the counts: a line for each operation, then the sums.
 use crate::table::{PLANTED, name};
 use crate::tally::Tally;
-use libc::STDOUT_FILENO;
+use std::io;
 
 // The whole report.
-pub(crate) fn report(tally: Tally) {
-    text(b"operation             order 2 order 3 order 4  differ\n");
-    operations(tally);
-    text(b"total compared        ");
-    sum(tally.compared_in_all());
-    text(b"total differ          ");
-    sum(tally.different_in_all());
-    text(b"planted compared      ");
-    sum(tally.compared_of(PLANTED));
-    text(b"planted differ        ");
-    sum(tally.different_of(PLANTED));
-    text(b"lines not read        ");
-    sum(tally.not_read);
-    text(b"operations not known  ");
-    sum(tally.not_known);
+pub(crate) fn report(rt: &impl Print, tally: &Tally) -> io::Result<()> {
+    text(
+        rt,
+        b"operation             order 2 order 3 order 4  differ\n",
+    )?;
+    operations(rt, tally)?;
+    text(rt, b"total compared        ")?;
+    sum(rt, tally.compared_in_all())?;
+    text(rt, b"total differ          ")?;
+    sum(rt, tally.different_in_all())?;
+    text(rt, b"planted compared      ")?;
+    sum(rt, tally.compared_of(PLANTED))?;
+    text(rt, b"planted differ        ")?;
+    sum(rt, tally.different_of(PLANTED))?;
+    text(rt, b"lines not read        ")?;
+    sum(rt, tally.not_read)?;
+    text(rt, b"operations not known  ")?;
+    sum(rt, tally.not_known)
 }
 
 // A line for each operation, without the planted.
-fn operations(tally: Tally) {
-    let mut operation = 0;
-    while operation < PLANTED {
-        row(tally, operation);
-        operation += 1;
+fn operations(rt: &impl Print, tally: &Tally) -> io::Result<()> {
+    for operation in 0..PLANTED {
+        row(rt, tally, operation)?;
     }
+    Ok(())
 }
 
 // An operation's name, its compared lines of each order, and its differing lines.
-fn row(tally: Tally, operation: usize) {
-    let name = name(operation);
-    io::write_all(STDOUT_FILENO, &name);
-    column(tally.compared_at(operation, 2));
-    column(tally.compared_at(operation, 3));
-    column(tally.compared_at(operation, 4));
-    column(tally.different_of(operation));
-    text(b"\n");
+fn row(rt: &impl Print, tally: &Tally, operation: usize) -> io::Result<()> {
+    text(rt, &name(operation))?;
+    column(rt, tally.compared_at(operation, 2))?;
+    column(rt, tally.compared_at(operation, 3))?;
+    column(rt, tally.compared_at(operation, 4))?;
+    column(rt, tally.different_of(operation))?;
+    text(rt, b"\n")
 }
 
 // A number at the right of eight places.
-fn column(n: u64) {
+fn column(rt: &impl Print, n: u64) -> io::Result<()> {
     if n < 10 {
-        text(b"       ");
+        text(rt, b"       ")?;
     } else if n < 100 {
-        text(b"      ");
+        text(rt, b"      ")?;
     } else if n < 1000 {
-        text(b"     ");
+        text(rt, b"     ")?;
     } else {
-        text(b"    ");
+        text(rt, b"    ")?;
     }
-    io::print_decimal(STDOUT_FILENO, n);
+    print!(rt; "{n}")
 }
 
 // A number and the end of the line.
-fn sum(n: u64) {
-    io::print_decimal(STDOUT_FILENO, n);
-    text(b"\n");
+fn sum(rt: &impl Print, n: u64) -> io::Result<()> {
+    println!(rt; "{n}")
 }
 
 // These bytes.
-fn text(bytes: &[u8]) {
-    io::write_all(STDOUT_FILENO, bytes);
+fn text(rt: &impl Print, bytes: &[u8]) -> io::Result<()> {
+    rt.write_all(bytes)
 }

@@ -94,7 +94,7 @@ impl Tally {
     }
 
     // How many lines of an operation and an order were compared.
-    pub(crate) fn compared_at(self, operation: usize, order: usize) -> u64 {
+    pub(crate) fn compared_at(&self, operation: usize, order: usize) -> u64 {
         if operation >= COUNT {
             return 0;
         }
@@ -109,7 +109,7 @@ impl Tally {
     }
 
     // How many lines of an operation were compared.
-    pub(crate) fn compared_of(self, operation: usize) -> u64 {
+    pub(crate) fn compared_of(&self, operation: usize) -> u64 {
         plus(
             self.compared_at(operation, 2),
             plus(
@@ -120,7 +120,7 @@ impl Tally {
     }
 
     // How many lines of an operation differ.
-    pub(crate) fn different_of(self, operation: usize) -> u64 {
+    pub(crate) fn different_of(&self, operation: usize) -> u64 {
         if operation < COUNT {
             self.different[operation]
         } else {
@@ -129,7 +129,7 @@ impl Tally {
     }
 
     // How many lines were compared, without the planted.
-    pub(crate) fn compared_in_all(self) -> u64 {
+    pub(crate) fn compared_in_all(&self) -> u64 {
         let mut sum = 0;
         let mut operation = 0;
         while operation < PLANTED {
@@ -140,7 +140,7 @@ impl Tally {
     }
 
     // How many lines differ, without the planted.
-    pub(crate) fn different_in_all(self) -> u64 {
+    pub(crate) fn different_in_all(&self) -> u64 {
         let mut sum = 0;
         let mut operation = 0;
         while operation < PLANTED {
