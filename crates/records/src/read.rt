@@ -6,14 +6,12 @@ pub(crate) fn until(text: &[u8], from: usize, ending: u8) -> usize
     requires { from ≤ length text.now }
     ensures { (from ≤ result) × (result ≤ length text.now) }
 {
-    let mut i = from;
-    while i < text.len() {
+    for i in from..text.len() {
         if text[i] == ending {
             return i;
         }
-        i += 1;
     }
-    i
+    text.len()
 }
 
 // Where the next part starts: behind the byte that ended one, or at the end of the text.
@@ -27,10 +25,8 @@ pub(crate) fn behind(text: &[u8], end: usize) -> usize
 // The decimal number of a word; one of more than 64 bits is cut.
 pub(crate) fn decimal(word: &[u8]) -> usize {
     let mut n = 0usize;
-    let mut i = 0;
-    while i < word.len() {
-        n = std::num::wrapping_add_usize(n % 1844674407370955162 * 10, (word[i] % 16) as usize);
-        i += 1;
+    for b in word {
+        n = (n % 1844674407370955162 * 10).wrapping_add((*b % 16) as usize);
     }
     n
 }
@@ -46,13 +42,11 @@ fn digit(b: u8) -> u8
 pub(crate) fn hexadecimal(word: &[u8], bytes: &mut [u8]) -> usize
     ensures { (result ≤ length bytes.new) × (result ≡ length (take result bytes.new)) }
 {
-    let mut n = 0;
-    while n < bytes.len() {
+    for n in 0..bytes.len() {
         if word.len() / 2 <= n {
             return n;
         }
         bytes[n] = digit(word[2 * n]) * 16 + digit(word[2 * n + 1]);
-        n += 1;
     }
-    n
+    bytes.len()
 }
