@@ -216,13 +216,11 @@ fn holds(answer: Moved, out: &[f64; ROOM], row: &Row) -> bool {
 
 // Whether the first places hold this number, and the rest what stood there before.
 fn leaves(out: &[f64; ROOM], written: usize, number: f64) -> bool {
-    let mut i = 0;
-    while i < ROOM {
+    for i in 0..ROOM {
         let expected = if i < written { number } else { BEFORE };
         if out[i] != expected {
             return false;
         }
-        i += 1;
     }
     true
 }

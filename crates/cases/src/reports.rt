@@ -61,39 +61,33 @@ const LINES: [[u8; 49]; 49] = [
 
 // The line of a row: what stands before its bar.
 fn line(row: &[u8]) -> &[u8] {
-    let mut i = 0;
-    while i < row.len() {
+    for i in 0..row.len() {
         if row[i] == b'|' {
             return &row[..i];
         }
-        i += 1;
     }
     row
 }
 
 // Whether every byte from a place on is as it was before.
 fn unchanged(out: &[u8], from: usize) -> bool {
-    let mut i = from;
-    while i < out.len() {
+    for i in from..out.len() {
         if out[i] != BEFORE {
             return false;
         }
-        i += 1;
     }
     true
 }
 
 // Whether a short output begins as a long one does.
 fn begins(short: &[u8], long: &[u8]) -> bool {
-    let mut i = 0;
-    while i < short.len() {
+    for i in 0..short.len() {
         if i == long.len() {
             return false;
         }
         if short[i] != long[i] {
             return false;
         }
-        i += 1;
     }
     true
 }

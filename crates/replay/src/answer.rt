@@ -231,12 +231,10 @@ impl Answer {
         if self.count != other.count {
             return false;
         }
-        let mut i = 0;
-        while i < 16 {
+        for i in 0..16 {
             if self.entries[i] != other.entries[i] {
                 return false;
             }
-            i += 1;
         }
         true
     }

@@ -56,14 +56,12 @@ pub(crate) fn line_end(text: &[u8], from: usize) -> usize
     requires { from ≤ length text.now }
     ensures { (from ≤ result) × (result ≤ length text.now) }
 {
-    let mut i = from;
-    while i < text.len() {
+    for i in from..text.len() {
         if text[i] == b'\n' {
             return i;
         }
-        i += 1;
     }
-    i
+    text.len()
 }
 
 // Where the word ends that starts at `from`: at the end of the line or at a space.
@@ -71,14 +69,12 @@ fn word_end(line: &[u8], from: usize) -> usize
     requires { from ≤ length line.now }
     ensures { (from ≤ result) × (result ≤ length line.now) }
 {
-    let mut i = from;
-    while i < line.len() {
+    for i in from..line.len() {
         if line[i] == b' ' {
             return i;
         }
-        i += 1;
     }
-    i
+    line.len()
 }
 
 // Where the word starts that stands behind the one that ends at `end`.
@@ -112,14 +108,12 @@ fn hexadecimal(digits: &[u8]) -> Reading {
         return Reading::Nothing;
     }
     let mut value: u64 = 0;
-    let mut i = 0;
-    while i < digits.len() {
-        let d = digit(digits[i]);
+    for b in digits {
+        let d = digit(*b);
         if d > 15 {
             return Reading::Nothing;
         }
         value = (value << 4) | d;
-        i += 1;
     }
     Reading::Value(value)
 }
@@ -148,9 +142,8 @@ pub(crate) fn words(line: &[u8], from: usize) -> Run
     ensures { result.next ≤ length line.now }
 {
     let mut values = [0u64; ROOM];
-    let mut count = 0;
     let mut next = from;
-    while count < ROOM {
+    for count in 0..ROOM {
         let end = word_end(line, next);
         let Reading::Value(value) = stated(&line[next..end]) else {
             return Run {
@@ -160,11 +153,10 @@ pub(crate) fn words(line: &[u8], from: usize) -> Run
             };
         };
         values[count] = value;
-        count += 1;
         next = after(line, end);
     }
     Run {
-        count,
+        count: ROOM,
         next,
         values,
     }
@@ -294,10 +286,8 @@ fn refused(run: Run) -> Ending {
 // The first sixteen words.
 fn entries(values: [u64; ROOM]) -> [u64; 16] {
     let mut out = [0u64; 16];
-    let mut i = 0;
-    while i < 16 {
+    for i in 0..16 {
         out[i] = values[i];
-        i += 1;
     }
     out
 }

@@ -120,15 +120,13 @@ fn numbers(line: &[u8], from: usize, count: usize, room: &mut [f64; FLAT]) -> Fi
     ensures { result.next ≤ length line.now }
 {
     let mut next = from;
-    let mut i = 0;
-    while i < count {
+    for i in 0..count {
         let word = next_word(line, next);
         if !word.read {
             return Filled { read: false, next };
         }
         room[i] = bits::number(word.value);
         next = word.next;
-        i += 1;
     }
     Filled { read: true, next }
 }
@@ -209,12 +207,10 @@ fn ends(line: &[u8], read: bool, next: usize) -> bool {
 
 // Whether two outputs are the same, bit for bit.
 fn same(a: &[f64; FLAT], b: &[f64; FLAT]) -> bool {
-    let mut i = 0;
-    while i < FLAT {
+    for i in 0..FLAT {
         if !bits::same(a[i], b[i]) {
             return false;
         }
-        i += 1;
     }
     true
 }

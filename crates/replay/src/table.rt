@@ -216,25 +216,21 @@ pub(crate) fn name(operation: usize) -> [u8; WIDTH] {
 
 // The number of the operation that the word names, or COUNT.
 pub(crate) fn find(word: &[u8]) -> usize {
-    let mut operation = 0;
-    while operation < COUNT {
+    for operation in 0..COUNT {
         if names(name(operation), word) {
             return operation;
         }
-        operation += 1;
     }
-    operation
+    COUNT
 }
 
 // Whether the name, without the spaces that fill it up, is the word.
 fn names(name: [u8; WIDTH], word: &[u8]) -> bool {
-    let mut i = 0;
-    while i < WIDTH {
+    for i in 0..WIDTH {
         let expected = if i < word.len() { word[i] } else { b' ' };
         if name[i] != expected {
             return false;
         }
-        i += 1;
     }
     word.len() <= WIDTH
 }

@@ -131,10 +131,8 @@ impl Tally {
     // How many lines were compared, without the planted.
     pub(crate) fn compared_in_all(&self) -> u64 {
         let mut sum = 0;
-        let mut operation = 0;
-        while operation < PLANTED {
+        for operation in 0..PLANTED {
             sum = plus(sum, self.compared_of(operation));
-            operation += 1;
         }
         sum
     }
@@ -142,10 +140,8 @@ impl Tally {
     // How many lines differ, without the planted.
     pub(crate) fn different_in_all(&self) -> u64 {
         let mut sum = 0;
-        let mut operation = 0;
-        while operation < PLANTED {
+        for operation in 0..PLANTED {
             sum = plus(sum, self.different_of(operation));
-            operation += 1;
         }
         sum
     }
