@@ -81,15 +81,7 @@ fn unchanged(out: &[u8], from: usize) -> bool {
 
 // Whether a short output begins as a long one does.
 fn begins(short: &[u8], long: &[u8]) -> bool {
-    for i in 0..short.len() {
-        if i == long.len() {
-            return false;
-        }
-        if short[i] != long[i] {
-            return false;
-        }
-    }
-    true
+    long.starts_with(short)
 }
 
 // Whether a report in less room is the same one, cut there, of which 40 bytes are written.
