@@ -10,7 +10,7 @@ use crate::table::{
     VECTOR_TRUNCATE_N, ZERO, reads,
 };
 use crate::words::ROOM;
-use crate::{arithmetic, builders, inverse, moves, places, rotations, vectors, whole};
+use crate::{arithmetic, builders, inverse, moves, places, rotations, vectors, whole_numbers};
 
 // What the line comes to.
 pub(crate) fn replayed(line: &[u8]) -> Outcome {
@@ -69,7 +69,7 @@ fn order2(operation: usize, words: &[u64; ROOM]) -> Answer {
         ADD..=MUL_VECTOR => arithmetic::order2(operation, words),
         DETERMINANT | INVERT | PLANTED => inverse::order2(operation, words),
         FROM_ANGLE..=FROM_AXIS_ANGLE => rotations::order2(operation, words),
-        SIGNED_SUM..=COFACTOR => whole::order2(operation, words),
+        SIGNED_SUM..=COFACTOR => whole_numbers::order2(operation, words),
         _ => Answer::unknown(),
     }
 }
@@ -83,7 +83,7 @@ fn order3(operation: usize, words: &[u64; ROOM]) -> Answer {
         ADD..=MUL_VECTOR => arithmetic::order3(operation, words),
         DETERMINANT | INVERT => inverse::order3(operation, words),
         FROM_ANGLE..=FROM_AXIS_ANGLE => rotations::order3(operation, words),
-        SIGNED_SUM..=COFACTOR => whole::order3(operation, words),
+        SIGNED_SUM..=COFACTOR => whole_numbers::order3(operation, words),
         _ => Answer::unknown(),
     }
 }
@@ -97,7 +97,7 @@ fn order4(operation: usize, words: &[u64; ROOM]) -> Answer {
         ADD..=MUL_VECTOR => arithmetic::order4(operation, words),
         DETERMINANT | INVERT => inverse::order4(operation, words),
         FROM_ANGLE..=FROM_AXIS_ANGLE => rotations::order4(operation, words),
-        SIGNED_SUM..=COFACTOR => whole::order4(operation, words),
+        SIGNED_SUM..=COFACTOR => whole_numbers::order4(operation, words),
         _ => Answer::unknown(),
     }
 }

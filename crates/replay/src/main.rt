@@ -16,7 +16,7 @@ mod rotations;
 mod table;
 mod tally;
 mod vectors;
-mod whole;
+mod whole_numbers;
 mod words;
 
 use line::replayed;
