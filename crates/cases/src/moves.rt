@@ -194,16 +194,29 @@ fn row_case(rt: &impl Print, c: Count, row: Row) -> io::Result<Count>
 // The name of a row's case.
 fn title(rt: &impl Print, row: &Row) -> io::Result<()> {
     if row.points == 0 {
-        print!(rt; "move_vectors")?;
+        text(rt, b"move_vectors: order ")?;
     } else {
-        print!(rt; "move_points")?;
+        text(rt, b"move_points: order ")?;
     }
-    let order = row.order;
-    let matrix = row.matrix;
-    let input = row.input;
-    let output = row.output;
-    let refusal = row.refusal;
-    print!(rt; ": order {order}, matrix of {matrix}, {input} in, {output} out, refusal {refusal}")
+    number(rt, row.order as usize)?;
+    text(rt, b", matrix of ")?;
+    number(rt, row.matrix)?;
+    text(rt, b", ")?;
+    number(rt, row.input)?;
+    text(rt, b" in, ")?;
+    number(rt, row.output)?;
+    text(rt, b" out, refusal ")?;
+    number(rt, row.refusal as usize)
+}
+
+// These bytes.
+fn text(rt: &impl Print, bytes: &[u8]) -> io::Result<()> {
+    rt.write_all(bytes)
+}
+
+// This number.
+fn number(rt: &impl Print, n: usize) -> io::Result<()> {
+    print!(rt; "{n}")
 }
 
 // Whether a move did what its row says: done, with the order written to the whole output, or refused, with nothing written.
