@@ -1,6 +1,6 @@
 -- The report of a matrix goes by the entries below its order alone.
 -- Assumes nothing.
-use Rattle.std.proofs.Common.{◌≡◌, ℕ, zero, suc, ◌-◌, ◌<◌, Bool, true, false, ◌++◌, ℤ, refl, ap, arith}
+use Rattle.std.proofs.Common.{◌≡◌, ℕ, zero, suc, ◌<◌, Bool, true, false, ◌++◌, ℤ, refl, ap, arith}
 use Rattle.whole.specs.Matrix.{Matrix}
 use Rattle.whole.specs.Order.{exact_signed_sum}
 use Rattle.whole.proofs.Expansion.{signed_sum_ext}

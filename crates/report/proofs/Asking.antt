@@ -1,6 +1,6 @@
 -- The engine's answers about the floats of small whole numbers are the sums and cofactors of the numbers themselves, at every order.
 -- Assumes nothing.
-use Rattle.std.proofs.Common.{◌≡◌, ℕ, suc, ◌+◌, ◌-◌, ◌*◌, ◌^◌, ◌<◌, ◌≤◌, List, length, get_or, take, drop, ℤ, pos, nat_abs, sym, refl, ap, ◌∙◌, subst, le_trans, lt_of_le_of_lt, mul-le-mul_right, suc-mul, arith, lit<, length-take-le, get_or-take, w64, to_z, of_z, le-leb}
+use Rattle.std.proofs.Common.{◌≡◌, ℕ, suc, ◌+◌, ◌*◌, ◌^◌, ◌<◌, ◌≤◌, List, length, get_or, take, drop, ℤ, pos, nat_abs, sym, refl, ap, ◌∙◌, subst, le_trans, lt_of_le_of_lt, mul-le-mul_right, suc-mul, arith, lit<, length-take-le, get_or-take, w64, to_z, of_z, le-leb}
 use borrow.Author.Tests.{lt-leb}
 use lib.Signed.{mag}
 use lib.Ieee.{Float, binary64, of_int}

@@ -1,6 +1,6 @@
 -- The sign of a fraction by the signs of its numbers, and the loop that finds the greatest common divisor.
 -- Assumes nothing.
-use Rattle.std.proofs.Common.{◌≡◌, ℕ, zero, suc, ◌-◌, ◌*◌, ◌/◌, ◌%◌, ◌^◌, ◌<◌, ◌≤◌, Bool, true, false, cond, [], ◌++◌, ℤ, pos, negsuc, ◌*ℤ◌, neg_ℤ, nat_abs, sym, refl, ap, ◌∙◌, append-nil, mod-lt, suc-mul, mul-zero, zero-mul, arith, ltb-false, ltb-true, le-ltb, eq-eqb, ne_eqb}
+use Rattle.std.proofs.Common.{◌≡◌, ℕ, zero, suc, ◌*◌, ◌/◌, ◌%◌, ◌^◌, ◌<◌, ◌≤◌, Bool, true, false, cond, [], ◌++◌, ℤ, pos, negsuc, ◌*ℤ◌, neg_ℤ, nat_abs, sym, refl, ap, ◌∙◌, append-nil, mod-lt, suc-mul, mul-zero, zero-mul, arith, ltb-false, ltb-true, le-ltb, eq-eqb, ne_eqb}
 use native.Mathlib.Nat.{zero-div}
 use lib.Signed.{mag, lt_z}
 use Rattle.engine.proofs.Signed.{back}

@@ -8,7 +8,7 @@ use Rattle.whole.proofs.Ring.{abs_neg}
 use Rattle.exact.specs.Value.{signed}
 use Rattle.report.specs.Text.{Bytes}
 use Rattle.report.specs.Written.{Wrote}
-use Rattle.report.specs.Words.{passing, words, order_of, negative, digits_of, is_number, value, number_of, fits}
+use Rattle.report.specs.Words.{passing, order_of, negative, digits_of, is_number, value, number_of, fits}
 use Rattle.report.specs.Read.{words_from, held, Skipped, FirstPart, Numbers}
 use Rattle.report.specs.Entries.{small, SmallList, Square}
 use Rattle.report.specs.Line.{Line, no_order, other_count, not_whole, matrix, entries_in, after_order, line_in, line_of}

@@ -9,7 +9,6 @@ use Rattle.report.specs.declared.line.Found.{Found}
 use Rattle.report.specs.declared.line.Found.TheVariants as found
 use Rattle.report.specs.declared.line.Reading.{Reading}
 use Rattle.report.specs.declared.totals.Verdict.{Verdict}
-use Rattle.report.specs.declared.totals.Verdict.TheVariants as verdict
 use Rattle.report.specs.Text.{Bytes}
 use Rattle.report.specs.Written.{Wrote}
 use Rattle.report.specs.Entries.{columns, Square}

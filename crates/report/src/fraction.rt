@@ -7,7 +7,7 @@ ghost use Rattle.report.specs.Report.{gcd as report_gcd, reduced as report_reduc
 use crate::write;
 
 // Two numbers as a fraction.
-#[derive(Drop)]
+#[derive(Clone, Copy)]
 pub(crate) struct Ratio {
     pub over: u64,
     pub under: u64,

@@ -1,5 +1,7 @@
 // The report of a matrix that a person gives in words: its signed sum, its inverse, and whether what it moves comes back;
 // one verdict for a line of many, and the totals. Each function equals its definition in specs/ on every line of bytes; none relies on its caller.
+#![tactic(auto)]
+
 mod ask;
 mod fraction;
 mod help;

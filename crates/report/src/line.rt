@@ -4,7 +4,7 @@ ghost use Rattle.report.specs.Line.{Reads};
 use crate::{ask, read};
 
 // No order, another number of words, a word that is no whole number of magnitude at most 1024, or a matrix.
-#[derive(Drop)]
+#[derive(Clone, Copy)]
 pub(crate) enum Found {
     NoOrder,
     OtherCount,
@@ -13,7 +13,7 @@ pub(crate) enum Found {
 }
 
 // What was found; the order; the place of the first word that does not fit; the entries column by column and their signed sum.
-#[derive(Drop)]
+#[derive(Clone, Copy)]
 pub(crate) struct Reading {
     pub found: Found,
     pub order: usize,

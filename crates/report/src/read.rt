@@ -1,10 +1,10 @@
 // Words of a line, read one after the other: the order, and whole numbers up to 1024. Any other word is held as 1025.
 ghost use Rattle.std.specs.Prelude.{◌≡◌, ◌+◌, ◌-◌, ◌*◌, ◌<◌, ◌≤◌, min, length, drop};
 ghost use Rattle.report.specs.Words.{all, is_blank, order_of, negative as words_negative, digits_of, is_digit, is_number, value};
-ghost use Rattle.report.specs.Read.{held, Skipped, FirstPart, NextPart, Numbers as Read-as-Numbers};
+ghost use Rattle.report.specs.Read.{held, Skipped, FirstPart, NextPart, Numbers as ReadNumbers};
 
 // A part of a line: whether it is a word, the number that the word is held as, and where the next part starts.
-#[derive(Drop)]
+#[derive(Clone, Copy)]
 pub(crate) struct Part {
     pub word: bool,
     pub number: i64,
@@ -12,7 +12,7 @@ pub(crate) struct Part {
 }
 
 // The numbers of the words that were read, and whether they are as many as expected.
-#[derive(Drop)]
+#[derive(Clone, Copy)]
 pub(crate) struct Entries {
     pub good: bool,
     pub list: [i64; 16],
@@ -198,7 +198,7 @@ fn part_at(s: &[u8], at: usize) -> Part
 // The numbers of the words from a place on, as many as expected.
 pub(crate) fn numbers(s: &[u8], from: usize, count: usize) -> Entries
     requires { count ≤ 16 }
-    ensures { Read-as-Numbers s.now from count result.good result.list }
+    ensures { ReadNumbers s.now from count result.good result.list }
 {
     let mut list: [i64; 16] = [0; 16];
     let mut at = from;

@@ -7,7 +7,7 @@ ghost use Rattle.report.specs.Verdict.{more as verdict_more, none as verdict_non
 use crate::write;
 
 // What is said of a line: what the matrix moves comes back exactly, it need not, refusal 2, refusal 6, or the line is no matrix.
-#[derive(Drop)]
+#[derive(Clone, Copy)]
 pub enum Verdict {
     ComesBack,
     Rounded,
@@ -17,7 +17,7 @@ pub enum Verdict {
 }
 
 // How many lines there were, and how many of each kind.
-#[derive(Drop)]
+#[derive(Clone, Copy)]
 pub struct Totals {
     pub lines: u64,
     pub back: u64,

@@ -1,0 +1,11 @@
+-- The sentence of the test. Assumes nothing.
+use Rattle.report.specs.Report.{exactness}
+use Rattle.report.proofs.layout.exactness.Goals as goal
+
+pub returns-then-exact : goal.returns-then-exact
+unfolding exactness
+returns-then-exact c = rw c.if-exact.true c.text.ensures
+
+pub returns : goal.returns
+unfolding exactness
+returns c = rw c.if-exact.false c.text-2.ensures
