@@ -2,11 +2,10 @@
 -- Assumes nothing.
 use mathlib.Core.Path.{◌≡◌, refl, ap, ◌∙◌}
 use mathlib.Core.List.{List, [], ◌∷◌, ◌++◌, append-nil}
-use Prim.Native.Nat.{ℕ, suc, ◌+◌, ◌≤◌}
-use native.Mathlib.Nat.{zero-add}
+use Prim.Native.Nat.{ℕ, suc, ◌+◌}
 use native.Mathlib.Omega.{arith}
 use lib.Ieee.{Float}
-use lib.ListN.{length, set, drop, drop_of_length-le}
+use lib.ListN.{length, set, drop_of_length-le}
 use lib.Seq.{sets, sets-eq}
 use Rattle.vector.specs.Vectors.{entry}
 use Rattle.matrix.specs.Records.{new2, new3, new4}

@@ -2,7 +2,5 @@ pub mod Checks
 pub mod Flat
 pub mod Entries
 pub mod TwoOutputs
-pub mod InPlace
-pub mod Pairs
 pub mod Told
 pub mod Unique

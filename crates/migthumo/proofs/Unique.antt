@@ -1,15 +1,15 @@
 -- Any two outcomes that a promise allows are equal: each public function of this crate, over its own promise.
 -- Assumes nothing.
-use mathlib.Core.Path.{refl, sym, ◌∙◌}
+use mathlib.Core.Path.{sym, ◌∙◌}
 use mathlib.Core.List.{List}
 use Prim.Native.Nat.{ℕ}
 use lib.Ieee.{Float}
 use Rattle.vector.specs.Refusals.{Outcome}
-use Rattle.vector.proofs.Decided.{Decided, DecidedLent, DecidedClauses, value}
+use Rattle.vector.proofs.Decided.{Decided, DecidedLent, value}
 use Rattle.migthumo.specs.Entries.{Answers}
 use Rattle.migthumo.proofs.arithmetic
 use Rattle.migthumo.proofs.components
-use Rattle.migthumo.proofs.exact
+use Rattle.migthumo.proofs.sums
 use Rattle.migthumo.proofs.in_place
 use Rattle.migthumo.proofs.inverse
 use Rattle.migthumo.proofs.moves
@@ -54,24 +54,24 @@ migthumo_negate = answers
 pub migthumo_read_component : DecidedLent {L = λ κ. List ℕ × List Float} components.migthumo_read_component.Reads.Learnt (λ κ s. (s.1.1.0.now, s.1.1.1.0.now))
 migthumo_read_component = answers
 
--- ---- exact.rt
+-- ---- sums.rt
 
-pub migthumo_signed_sum : DecidedLent exact.migthumo_signed_sum.Reads.Learnt (λ κ s. s.1.1.0.now)
+pub migthumo_signed_sum : DecidedLent sums.migthumo_signed_sum.Reads.Learnt (λ κ s. s.1.1.0.now)
 migthumo_signed_sum = answers
 
-pub migthumo_undoable : DecidedLent exact.migthumo_undoable.Reads.Learnt (λ κ s. s.1.1.0.now)
+pub migthumo_undoable : DecidedLent sums.migthumo_undoable.Reads.Learnt (λ κ s. s.1.1.0.now)
 migthumo_undoable = answers
 
 -- ---- in_place.rt
 
-pub migthumo_swap_rows_mut : DecidedClauses in_place.migthumo_swap_rows_mut.ended (λ M. in_place.migthumo_swap_rows_mut.clauses) (λ κ s. s.0.now)
-migthumo_swap_rows_mut = record { promise = _; says = λ M 𝓤 𝓛 mem run κ a g x s. refl; decides = answers }
+pub migthumo_swap_rows_mut : DecidedLent in_place.migthumo_swap_rows_mut.Reads.Learnt (λ κ s. s.0.now)
+migthumo_swap_rows_mut = answers
 
-pub migthumo_swap_columns_mut : DecidedClauses in_place.migthumo_swap_columns_mut.ended (λ M. in_place.migthumo_swap_columns_mut.clauses) (λ κ s. s.0.now)
-migthumo_swap_columns_mut = record { promise = _; says = λ M 𝓤 𝓛 mem run κ a g x s. refl; decides = answers }
+pub migthumo_swap_columns_mut : DecidedLent in_place.migthumo_swap_columns_mut.Reads.Learnt (λ κ s. s.0.now)
+migthumo_swap_columns_mut = answers
 
-pub migthumo_swap_elements_mut : DecidedClauses in_place.migthumo_swap_elements_mut.ended (λ M. in_place.migthumo_swap_elements_mut.clauses) (λ κ s. s.0.now)
-migthumo_swap_elements_mut = record { promise = _; says = λ M 𝓤 𝓛 mem run κ a g x s. refl; decides = answers }
+pub migthumo_swap_elements_mut : DecidedLent in_place.migthumo_swap_elements_mut.Reads.Learnt (λ κ s. s.0.now)
+migthumo_swap_elements_mut = answers
 
 -- ---- inverse.rt
 

@@ -177,6 +177,6 @@ read_component bytes at head m =
 
 -- ---- the version
 
--- raised whenever an entry is added, or the signature of one or what it answers changes
+-- raised whenever the signature of an entry, or what it answers, changes
 abbrev pub version : ℕ
-version = 3
+version = 2
