@@ -3,6 +3,7 @@ ghost use Rattle.std.specs.Prelude.{◌≤◌, ◌≡◌, length, take};
 
 use crate::output;
 use std::env::FillError;
+use std::io;
 use std::rt::Env;
 
 // How many words the command has, the program's name among them.
@@ -39,19 +40,19 @@ fn join(rt: &impl Env, line: &mut [u8]) -> usize
 }
 
 // The report of the words.
-fn print(rt: &(impl Print + Eprint), line: &[u8]) {
+fn print(rt: &impl Print, line: &[u8]) -> io::Result<()> {
     let mut out = [0u8; 4096];
     let n = report::report(line, &mut out);
-    output::put(rt, &out[..n]);
+    output::put(rt, &out[..n])
 }
 
 // The answer to the words of the command.
-pub(crate) fn answer(rt: &(impl Env + Print + Eprint)) {
+pub(crate) fn answer(rt: &(impl Env + Print)) -> io::Result<()> {
     let mut line = [0u8; 65536];
     let n = join(rt, &mut line);
     if n == line.len() {
-        output::put(rt, b"expected words of fewer than 65536 bytes in all\n");
+        output::put(rt, b"expected words of fewer than 65536 bytes in all\n")
     } else {
-        print(rt, &line[..n]);
+        print(rt, &line[..n])
     }
 }

@@ -6,10 +6,12 @@ mod arguments;
 mod lines;
 mod output;
 
-fn main(rt: HostRuntime) {
+use std::io;
+
+fn main(rt: HostRuntime) -> io::Result<()> {
     if arguments::count(&rt) > 1 {
-        arguments::answer(&rt);
+        arguments::answer(&rt)
     } else {
-        lines::answer(&rt);
+        lines::answer(&rt)
     }
 }
