@@ -28,7 +28,7 @@ def short(path):
 def libraries():
     """The library crates that crates.txt names, but for the boundary."""
     text = re.sub(r"#[^\n]*", "", open("crates.txt", encoding="utf-8").read())
-    names = [name for name in re.findall(r"^\s*(\w+)\s*:", text, re.M) if os.path.exists(f"crates/{name}/src/lib.rt")]
+    names = [name for name in re.findall(r"^\s*(\w+)\b[^:\n]*:", text, re.M) if os.path.exists(f"crates/{name}/src/lib.rt")]
     return [name for name in names if name != BOUNDARY]
 
 
