@@ -1,11 +1,15 @@
 #!/usr/bin/env python3
 """Fails where a public function is called by no program that is run.
 
-Usage: tools/called.py        after rt check: it reads what `rt mir` prints, where each call names its function
+Usage: tools/called.py        it runs `rt check --list-calls` in the programs and in the static library, which proves them where they are not proved yet
 
-- Every public function of the libraries is called by `cases`, `replay` or `comesback`, in a function that their `main` reaches.
+- Every public function of the libraries is called by `cases`, `replay`, `comesback` or `records`.
 - The in-place swaps are called by functions of the boundary.
 - Every function of the boundary is called by the C program, include/test/migthumo_test.c.
+
+Which functions of other crates a program calls is what the compiler lists of its proved code. It lists the calls of all
+the program's own functions; that `main` reaches each of these is read off the sources, by name, and the script fails
+where it can't see it. For the boundary the exported functions stand in the place of `main`.
 """
 import glob
 import os
@@ -13,7 +17,7 @@ import re
 import subprocess
 import sys
 
-PROGRAMS = ["cases", "replay", "comesback"]
+PROGRAMS = ["cases", "replay", "comesback", "records"]
 IN_PLACE = ["matrix::Matrix4::swap_rows_mut", "matrix::Matrix4::swap_columns_mut", "matrix::Matrix4::swap_elements_mut"]
 BOUNDARY = "migthumo"
 C_PROGRAM = "include/test/migthumo_test.c"
@@ -28,7 +32,7 @@ def short(path):
 def libraries():
     """The library crates that crates.txt names, but for the boundary."""
     text = re.sub(r"#[^\n]*", "", open("crates.txt", encoding="utf-8").read())
-    names = [name for name in re.findall(r"^\s*(\w+)\s*:", text, re.M) if os.path.exists(f"crates/{name}/src/lib.rt")]
+    names = [name for name in re.findall(r"^\s*(\w+)\b[^:\n]*:", text, re.M) if os.path.exists(f"crates/{name}/src/lib.rt")]
     return [name for name in names if name != BOUNDARY]
 
 
@@ -50,35 +54,79 @@ def public(crate):
 
 
 def calls(crate):
-    """What each function of the crate calls, by full names."""
-    mir = subprocess.run(["rt", "mir", crate], stdout=subprocess.PIPE, text=True)
-    if mir.returncode != 0:
-        sys.exit(f"rt mir {crate} failed")
-    bodies = (part.split('"', 1) for part in mir.stdout.split('(fn-def "')[1:])
-    return {name: set(re.findall(r'\(call \(direct \(fnRef "([^"]+)"', body)) for name, body in bodies}
+    """The short names of the functions of other crates that the crate's functions call."""
+    check = subprocess.run(["rt", "check", "--list-calls"], cwd=f"crates/{crate}", stdout=subprocess.PIPE, text=True)
+    if check.returncode != 0:
+        sys.exit(f"{check.stdout}rt check --list-calls failed in crates/{crate}")
+    found = set()
+    for head, listed in re.findall(r"^calls (\w+: \d+) functions?\n((?:  .*\n)*)", check.stdout, re.M):
+        names = [line.strip() for line in listed.splitlines()]
+        if f"{names[0].split('::')[0] if names else ''}: {len(names)}" != head:
+            sys.exit(f"crates/{crate}: can't read the calls of {head}")
+        found.update(map(short, names))
+    if not found:
+        sys.exit(f"crates/{crate}: rt check --list-calls lists no call")
+    return found
 
 
-def reached(crate, of, starts):
-    """The short names of what the crate's own functions call, from these functions on."""
-    found, waiting = set(), list(starts)
+def bodies(crate):
+    """Each function of the crate, as its module, its type and its name, with the text of its body; and what each module imports by name."""
+    out, imports = {}, {}
+    for path in sorted(glob.glob(f"crates/{crate}/src/**/*.rt", recursive=True)):
+        text = re.sub(r"//[^\n]*|b?\"(?:\\.|[^\"\\])*\"|b'(?:\\.|[^'\\])'", "", open(path, encoding="utf-8").read())
+        module = os.path.basename(path)[:-3]
+        imports[module] = set()
+        for of, listed in re.findall(r"^\s*use (?:crate::)?(\w+)::(\w+|\{[^}]*\});", text, re.M):
+            imports[module].update((of, name) for name in re.findall(r"\w+", listed))
+        owner, lines, at = "", text.split("\n"), None
+        for line in lines:
+            if head := re.match(r"impl(?:<[^>]*>)? (?:[\w:<>]+ for )?(\w+)|\}", line):
+                owner = head.group(1) or ""
+            if head := re.match(r"\s*(?:pub(?:\([^)]*\))? )?(?:extern \"C\" |extern  )?fn (\w+)", line):
+                at = (module, owner, head.group(1))
+                if at in out:
+                    sys.exit(f"{path}: two functions of the name {at[2]}")
+                out[at] = ""
+                line = line[head.end() :]
+            if at:
+                out[at] += line + "\n"
+    return out, imports
+
+
+def unreached(crate, starts):
+    """The crate's functions of which the sources don't show that one of these calls them, itself or through others."""
+    of, imports = bodies(crate)
+    waiting = [f for f in of if f[2] in starts]
+    if len(waiting) != len(starts):
+        sys.exit(f"crates/{crate}: can't find {starts}")
+    found = set(waiting)
     while waiting:
-        for name in of[waiting.pop()] - found:
-            found.add(name)
-            if name.startswith(crate + "::"):
-                waiting.append(name)
-    return set(map(short, found))
+        here = waiting.pop()
+        for f in of.keys() - found:
+            module, owner, name = f
+            ways = [rf"\.{name}\s*\(", rf"\b(?:{owner}|Self)::{name}\b"] if owner else [rf"\b{module}::{name}\b"]
+            if not owner and (module == here[0] or (module, name) in imports[here[0]]):
+                ways.append(rf"(?<![\w.:]){name}\b")
+            if any(re.search(way, of[here]) for way in ways):
+                found.add(f)
+                waiting.append(f)
+    return ["::".join(filter(None, f)) for f in sorted(of.keys() - found)]
 
 
 def main():
-    bad = []
-    by_programs = set.union(*(reached(p, calls(p), [p + "::main"]) for p in PROGRAMS))
+    bad, by_programs = [], set()
+    for program in PROGRAMS:
+        if not os.path.exists(f"crates/{program}/stdout"):
+            bad.append(f"{program} is not run, since it has no file stdout")
+        bad += [f"{f} of the program {program}, as far as the sources show" for f in unreached(program, ["main"])]
+        by_programs |= calls(program)
     functions = [name for crate in libraries() for name in public(crate)]
     for name in functions:
         if name not in IN_PLACE and name not in by_programs:
             bad.append(f"{name} is called by neither {' nor '.join(PROGRAMS)}")
     exported = public(BOUNDARY)
-    of = calls(BOUNDARY)
-    by_boundary = reached(BOUNDARY, of, [name for name in of if short(name) in exported])
+    bad += [f"{f} of {BOUNDARY}, as far as the sources show" for f in unreached(BOUNDARY, [name.split("::")[-1] for name in exported])]
+    by_boundary = calls(BOUNDARY)
     for name in IN_PLACE:
         if name not in functions or name not in by_boundary:
             bad.append(f"{name} is no public function, or the boundary doesn't call it")

@@ -151,8 +151,9 @@ def between(path, first, last):
 
 def readme():
     """The reports that README.md shows: what stands under a line with the command and its words, up to a line that is not set in."""
-    shown = re.findall(r"^    .*target/bin/comesback (\d[-\d ]*)\n\n((?:    .*\n)+)", text("README.md"), re.M)
-    return [(words, re.sub("(?m)^    ", "", block)) for words, block in shown]
+    command = r"(?:\(cd crates/comesback && rt run -- (\d[-\d ]*)\)|crates/comesback/out/comesback (\d[-\d ]*))"
+    shown = re.findall(rf"^    {command}\n\n((?:    .*\n)+)", text("README.md"), re.M)
+    return [(built or ran, re.sub("(?m)^    ", "", block)) for built, ran, block in shown]
 
 
 def same(name, found, expected):

@@ -29,6 +29,7 @@ STATEMENTS = {
         "ListsOrders": "(n : ℕ) → ListsOrders n (orders n)",
         "ZeroExactlyIf": "(n : ℕ) (m : Matrix) → ZeroExactlyIf n m",
     },
+    "component": {"ReadExactly": "ReadExactly", "OwnBytesDecide": "OwnBytesDecide"},
     "reference": {"Claims": "Claims table", "Ways": "Ways"},
     "migthumo": {"CodeTells": "CodeTells"},
     "report": {
@@ -48,6 +49,7 @@ STATEMENTS = {
         "PlaceSlips": "PlaceSlips",
         "EngineSlips": "EngineSlips",
         "MoveSlips": "MoveSlips",
+        "ComponentSlips": "ComponentSlips",
         "DemandSlips": "DemandSlips",
     },
 }

@@ -13,6 +13,9 @@ ghost use Rattle.bulk.specs.Moves.{move_vectors, move_points};
 
 use vector::Refusal;
 
+// No order is above it.
+const LARGEST: usize = 4;
+
 // What a bulk move answers.
 #[derive(Clone, Copy)]
 pub enum Moved {
@@ -40,7 +43,7 @@ fn check(short: usize, order: usize, matrix: usize, input: usize, output: usize)
     if order < 2 + short {
         return Moved::Refused(Refusal::Order);
     }
-    if 4 < order {
+    if LARGEST < order {
         return Moved::Refused(Refusal::Order);
     }
     if matrix != order * order {

@@ -11,6 +11,9 @@ use engine::NumberAnswer;
 use matrix::{Column, Matrix2, Matrix3, Matrix4, Row};
 use vector::{Vector2, Vector3, Vector4};
 
+// The largest magnitude that the engine takes.
+const LARGEST: u64 = 1024;
+
 // The number at a place of the list, as a float.
 fn float_at(list: [i64; 16], i: usize) -> f64
     requires { (i < 16) × SmallList (i + 1) list }
@@ -90,7 +93,7 @@ pub(crate) fn small_ones(list: [i64; 16], count: usize) -> usize
     let mut i = 0;
     while i < count {
         let z = list[i];
-        if 1024 < engine::magnitude(z) {
+        if LARGEST < engine::magnitude(z) {
             return i;
         }
         i += 1;
