@@ -1,20 +1,16 @@
 /*
- * Migthumo: matrices of order 2, 3 and 4 over double, with proved arithmetic, and a reader of the component records of
- * a font. The functions of libmigthumo.a.
+ * Migthumo: matrices of order 2, 3 and 4 over double, with proved arithmetic. The functions of libmigthumo.a.
  *
  * A matrix is a flat slice of its columns, one after the other: of order n it is n*n numbers, and the entry at column
  * c and row r is number c*n + r. A vector is n numbers. A matrix moves a vector as matrix times vector, the matrix on
- * the left. A slice is two arguments, a pointer and then its length in elements. The output comes last;
- * migthumo_read_component has two.
+ * the left. A slice is two arguments, a pointer and then its length in elements. The output comes last.
  *
  * Entries are plain numbers, and the library knows no units: who holds scales as whole sixty-fourths holds offsets so
- * too, the last row stays 0, 0, 1, and what comes out is in sixty-fourths. A matrix that migthumo_read_component gives
- * has its offsets in font units and its scales as plain numbers: a scale of 1 leaves the size as it is.
+ * too, the last row stays 0, 0, 1, and what comes out is in sixty-fourths.
  *
- * Every function but migthumo_version answers 0, or a refusal (enum migthumo_answer), the first whose cause applies.
- * The causes are tested in the order 5, 3, 4, then each column and row number in the order in which they are handed in
- * (11 and 12 for the first, 267 and 268 for the second), then 6, 2. Those of migthumo_read_component are tested in the
- * order 4, 20 for the flags word, 21, 22, 20 for the rest of the record. Every output is written in full where 0 is
+ * Every function but migthumo_version answers 0, or a refusal (enum migthumo_answer). The causes are tested in the
+ * order 5, 3, 4, then each column and row number in the order in which they are handed in (11 and 12 for the first, 267
+ * and 268 for the second), then 6, 2, and the first that applies is answered. The output is written in full where 0 is
  * answered, and is unchanged where any other number is.
  *
  * What the caller sees to:
@@ -22,22 +18,21 @@
  *    values);
  *  - a pointer is aligned for its type and not null. A slice of length 0 may be null: that is tested with every
  *    function, and not proved;
- *  - an output overlaps no other slice of the same call, be it an input or the other output, and is not the same slice
- *    as one: what is proved takes them to be apart. So no call may be made in place; the swaps whose names end in _mut
- *    are the in-place forms. Inputs may be the same slice, or overlap each other;
+ *  - an output overlaps no other slice of the same call, and is not the same slice as one: what is proved takes them
+ *    to be apart. So no call may be made in place; the swaps whose names end in _mut are the in-place forms. Inputs
+ *    may be the same slice, or overlap each other;
  *  - nothing else writes to a slice, or reads an output, while the call runs;
  *  - floating point works as a program finds it at its start: rounding to nearest, subnormal numbers kept. A program
  *    linked with -ffast-math may change that.
  *
- * What is not asked: any double may be handed in, NaN and infinities too, and any bytes; any order, column and row
- * number and any place in the bytes, since all are tested; and any length that is true of its pointer: one that the
- * function doesn't take (at this order, where it takes an order) is refused with 3 or 4, without reading or writing an
- * element. Bytes may have any length, 0 too. No function allocates, blocks, or keeps a pointer; each may be called from
+ * What is not asked: any double may be handed in, NaN and infinities too, and any order, column and row number, since
+ * all are tested; and any length that is true of its pointer: one that the order doesn't ask for is refused with 3 or
+ * 4, without reading or writing an element. No function allocates, blocks, or keeps a pointer; each may be called from
  * many threads at once.
  *
  * Each operation rounds once, to nearest even; nothing is fused or reordered. Transposes, swaps, rows, diagonals and
- * embeddings carry each entry over with all its bits, and what is read from a component record is exact. Which NaN it
- * is that a sum or a product gives is not promised; that a NaN is carried over with its bits is tested, and not proved.
+ * embeddings carry each entry over with all its bits. Which NaN it is that a sum or a product gives is not promised;
+ * that a NaN is carried over with its bits is tested, and not proved.
  */
 #ifndef MIGTHUMO_H
 #define MIGTHUMO_H
@@ -56,39 +51,39 @@
 extern "C" {
 #endif
 
-/* The version of this header, and that of the library that is linked. It is raised whenever a function is added, or a
-   signature or an answer changes. A program may compare the two once, at its start; where they differ, take header and
-   archive from one checkout. */
-#define MIGTHUMO_VERSION 3
+/* The version of this header, and that of the library that is linked. It is raised whenever a signature or an answer
+   changes. A program may compare the two once, at its start; where they differ, take header and archive from one
+   checkout. */
+#define MIGTHUMO_VERSION 2
 uint32_t migthumo_version(void);
 
 /* What a function answers: 0, or why it gave no value. A column number that is not below the order is refused with 11,
    a row number with 12. Such an answer has a place, first or second: where it is the second column or row number that
    is handed in, 256 is added: 267 is 11 + 256, and 268 is 12 + 256. No other answer has a place. 1 is never answered:
-   in version 1 it was MIGTHUMO_OUT_OF_RANGE, for any column or row number; now it is 11, 12, 267 or 268. */
+   in version 1 it was MIGTHUMO_OUT_OF_RANGE, for any column or row number; now it is one of the last four. */
 enum migthumo_answer {
-    /* Every output is written. */
+    /* The output is written. */
     MIGTHUMO_GIVEN = 0,
     /* The determinant compares equal to zero: more at migthumo_invert. */
     MIGTHUMO_SINGULAR = 2,
     /* An input slice has the wrong length. */
     MIGTHUMO_INPUT_LENGTH = 3,
-    /* An output slice has the wrong length. */
+    /* The output slice has the wrong length. */
     MIGTHUMO_OUTPUT_LENGTH = 4,
     /* The order is not one that the function takes. */
     MIGTHUMO_ORDER = 5,
     /* An entry is not a whole number of magnitude at most 1024. */
     MIGTHUMO_NOT_WHOLE = 6,
-    /* The first column number handed in is not below the order. */
-    MIGTHUMO_FIRST_COLUMN = 11,
-    /* The first row number handed in is not below the order. A lone row number is a first one. */
-    MIGTHUMO_FIRST_ROW = 12,
-    /* The bytes end inside the record. */
+    /* The bytes end inside the component record. These three are of migthumo_read_component alone. */
     MIGTHUMO_RECORD_ENDS = 20,
     /* More than one of the scale flags 0x0008, 0x0040 and 0x0080 is set. */
     MIGTHUMO_SCALE_FLAGS = 21,
     /* The offsets are point numbers: flag 0x0002 is clear. */
     MIGTHUMO_POINT_NUMBERS = 22,
+    /* The first column number handed in is not below the order. */
+    MIGTHUMO_FIRST_COLUMN = 11,
+    /* The first row number handed in is not below the order. A lone row number is a first one. */
+    MIGTHUMO_FIRST_ROW = 12,
     /* The second column number handed in is not below the order. */
     MIGTHUMO_SECOND_COLUMN = 267,
     /* The second row number handed in is not below the order. */
@@ -263,7 +258,7 @@ MIGTHUMO_MUST_USE uint32_t migthumo_swap_columns_mut(migthumo_matrix4 *m, size_t
 MIGTHUMO_MUST_USE uint32_t migthumo_swap_elements_mut(migthumo_matrix4 *m, size_t first_column, size_t first_row,
                                                       size_t second_column, size_t second_row);
 
-/* ---- component records of a font */
+/* ---- component records of a font: begun, and not finished; the version was not raised for it */
 
 /* One component of an OpenType glyf composite, read from its record at the place `at` in the bytes, counted from 0. The
    record is the flags and the glyph index, an unsigned word each; two signed offsets dx and dy, words where flag 0x0001
@@ -276,6 +271,9 @@ MIGTHUMO_MUST_USE uint32_t migthumo_swap_elements_mut(migthumo_matrix4 *m, size_
    The matrix moves a point (x, y) of the borrowed glyph as matrix times (x, y, 1): migthumo_move_points does so at
    order 3. The offsets are never scaled by the linear part, whatever flags 0x0800 and 0x1000 say. Where flag 0x0020 is
    set, another component follows, at the place head[2].
+   It has two outputs, head and m: both are written in full where 0 is answered, and both are unchanged where any other
+   number is. They overlap neither the bytes nor each other. Any bytes may be handed in, however many, none too, and any
+   place, since it is tested. The first of these that applies is answered:
    4 unless head_length is 3 and m_length is 9; 20 where the bytes end inside the flags word, so for every place at or
    past their end, however large; 21 where more than one of the scale flags is set; 22 where flag 0x0002 is clear, since
    the offsets are point numbers then; 20 where the bytes end inside the rest of the record. Any other flags word is

@@ -12,8 +12,8 @@
 //!
 //! This file holds all of the crate's `unsafe`: the declarations of libmigthumo.a, one safe function over each, and
 //! the views of a record as its numbers. What makes a call safe is the same everywhere: a slice goes over as its own
-//! pointer and its own length, the library tests every length and place before it reads or writes, it keeps no pointer,
-//! and a slice lent for change overlaps no other.
+//! pointer and its own length, the library tests every length before it reads or writes, it keeps no pointer, and a
+//! slice lent for change overlaps no other.
 
 use crate::{Matrix2, Matrix3, Matrix4, Refusal, Vector2, Vector3, Vector4};
 use core::{ptr, slice};
@@ -247,7 +247,7 @@ pub(crate) fn numbers_mut<T: Record>(record: &mut T) -> &mut [f64] {
 /// The version of the library that is linked. The build script compares it with [`VERSION`](crate::VERSION).
 ///
 /// ```
-/// assert_eq!(migthumo::ffi::version(), 3);
+/// assert_eq!(migthumo::ffi::version(), 2);
 /// ```
 #[inline]
 #[must_use]
@@ -918,7 +918,7 @@ pub fn swap_elements_mut(m: &mut Matrix4, ac: usize, ar: usize, bc: usize, br: u
 /// rest of the record. Where it is refused, both outputs are as they were.
 #[inline]
 pub fn read_component(bytes: &[u8], at: usize, head: &mut [usize], m: &mut [f64]) -> Result<(), Refusal> {
-    // SAFETY: each of `bytes`, `head` and `m` goes over with its own length.
+    // SAFETY: each of `bytes`, `head` and `m` goes over with its own length, and the library tests the place too.
     answer(unsafe {
         migthumo_read_component(bytes.as_ptr(), bytes.len(), at, head.as_mut_ptr(), head.len(), m.as_mut_ptr(), m.len())
     })

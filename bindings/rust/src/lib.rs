@@ -1,5 +1,4 @@
-//! Matrices of order 2, 3 and 4 over `f64`, in cgmath's words, with proved arithmetic, and a reader of the component
-//! records of a font.
+//! Matrices of order 2, 3 and 4 over `f64`, in cgmath's words, with proved arithmetic.
 //!
 //! Every sum, product, determinant and inverse is worked out by libmigthumo.a, whose functions are proved to follow
 //! IEEE 754 operation by operation; this crate only carries numbers there and back. Matrices are column-major:

@@ -58,7 +58,7 @@ pub enum Refusal {
     Singular,
     /// 3: an input slice has the wrong length.
     InputLength,
-    /// 4: an output slice has the wrong length.
+    /// 4: the output slice has the wrong length.
     OutputLength,
     /// 5: the order is not one that the operation takes.
     Order,
@@ -224,14 +224,15 @@ impl TryFrom<u32> for Refusal {
     }
 }
 
-/// An answer other than those of the refusals that this crate knows, 2 to 6, 11, 12, 20 to 22, 267 and 268.
+/// An answer other than those of the refusals that this crate knows, 2 to 6, 11, 12, 267 and 268, and 20 to 22, those of
+/// a component record, which its words don't name.
 ///
 /// ```
 /// use migthumo::Refusal;
 ///
 /// let error = Refusal::try_from(7).unwrap_err();
 /// assert_eq!(error.answer(), 7);
-/// assert_eq!(error.to_string(), "7 is not the answer of a refusal: 2 to 6, 11, 12, 20 to 22, 267 or 268");
+/// assert_eq!(error.to_string(), "7 is not the answer of a refusal: 2 to 6, 11, 12, 267 or 268");
 /// ```
 #[derive(Clone, Copy, Debug, PartialEq, Eq, Hash)]
 pub struct UnknownAnswer(u32);
@@ -247,7 +248,7 @@ impl UnknownAnswer {
 
 impl fmt::Display for UnknownAnswer {
     fn fmt(&self, f: &mut fmt::Formatter<'_>) -> fmt::Result {
-        write!(f, "{} is not the answer of a refusal: 2 to 6, 11, 12, 20 to 22, 267 or 268", self.0)
+        write!(f, "{} is not the answer of a refusal: 2 to 6, 11, 12, 267 or 268", self.0)
     }
 }
 

@@ -121,7 +121,7 @@ fn an_empty_name_is_none() {
 
 #[test]
 fn a_named_folder() {
-    let folder = of_version("named", "3");
+    let folder = of_version("named", "2");
     let said = said("named_run", &[("MIGTHUMO_LIB_DIR", &folder)]);
     assert_links(&said, &folder);
     assert_eq!(lines(&said, "cargo::rerun-if-changed="), [folder.join("libmigthumo.a").to_str().unwrap()]);
@@ -132,7 +132,7 @@ fn a_folder_seen_from_the_crates() {
     let above = room("above");
     fs::create_dir_all(above.join("crate")).unwrap();
     fs::create_dir_all(above.join("library")).unwrap();
-    fs::copy(of_version("seen", "3").join("libmigthumo.a"), above.join("library/libmigthumo.a")).unwrap();
+    fs::copy(of_version("seen", "2").join("libmigthumo.a"), above.join("library/libmigthumo.a")).unwrap();
     let here = above.join("crate");
     let said =
         said("seen_run", &[("MIGTHUMO_LIB_DIR", OsStr::new("../library")), ("CARGO_MANIFEST_DIR", here.as_ref())]);
@@ -144,7 +144,7 @@ fn a_folder_without_a_library() {
     let folder = room("without");
     let said = said("without_run", &[("MIGTHUMO_LIB_DIR", &folder)]);
     let path = folder.join("libmigthumo.a");
-    assert_says(&said, "cargo::error=", &[path.to_str().unwrap(), "unset MIGTHUMO_LIB_DIR", "rt staticlib migthumo"]);
+    assert_says(&said, "cargo::error=", &[path.to_str().unwrap(), "unset MIGTHUMO_LIB_DIR", "`rt lib`"]);
 }
 
 #[test]
@@ -159,15 +159,11 @@ fn a_crate_without_its_repository() {
 
 #[test]
 fn another_version() {
-    for version in ["0", "1", "2", "4", "4294967295"] {
+    for version in ["0", "1", "3", "4294967295"] {
         let folder = of_version("other", version);
         let said = said("other_run", &[("MIGTHUMO_LIB_DIR", &folder)]);
-        let found = format!("has version {version}, and this crate is written for version 3");
-        assert_says(
-            &said,
-            "cargo::error=",
-            &[&found, folder.to_str().unwrap(), "one checkout", "rt staticlib migthumo"],
-        );
+        let found = format!("has version {version}, and this crate is written for version 2");
+        assert_says(&said, "cargo::error=", &[&found, folder.to_str().unwrap(), "one checkout", "`rt lib`"]);
     }
 }
 
@@ -176,7 +172,7 @@ fn no_version() {
     let functions = "#[no_mangle]\npub extern \"C\" fn migthumo_add() -> u32 { 5 }";
     let folder = library("old", functions);
     let said = said("old_run", &[("MIGTHUMO_LIB_DIR", &folder)]);
-    assert_says(&said, "cargo::error=", &["has no version", "migthumo_version", "version 3", "one checkout"]);
+    assert_says(&said, "cargo::error=", &["has no version", "migthumo_version", "version 2", "one checkout"]);
 }
 
 #[test]
@@ -193,7 +189,7 @@ fn a_library_that_does_not_link() {
 
 #[test]
 fn no_linker_and_no_compiler() {
-    let folder = of_version("unlinked", "3");
+    let folder = of_version("unlinked", "2");
     let linker = [("MIGTHUMO_LIB_DIR", folder.as_os_str()), ("RUSTC_LINKER", OsStr::new("/no/such/linker"))];
     assert_says(&said("no_linker", &linker), "cargo::error=", &["could not be tested", "/no/such/linker"]);
     let compiler = [("MIGTHUMO_LIB_DIR", folder.as_os_str()), ("RUSTC", OsStr::new("/no/such/rustc"))];
@@ -206,7 +202,7 @@ fn no_linker_and_no_compiler() {
 
 #[test]
 fn flags_reach_the_program_that_asks() {
-    let folder = of_version("flags", "3");
+    let folder = of_version("flags", "2");
     let flags = |flags| [("MIGTHUMO_LIB_DIR", folder.as_os_str()), ("CARGO_ENCODED_RUSTFLAGS", OsStr::new(flags))];
     assert_links(&said("flags_run", &flags("-Copt-level=1\x1f-Dwarnings\x1f--cfg\x1fany")), &folder);
     assert_says(
@@ -239,7 +235,7 @@ fn other_targets_are_warned_of() {
 
 #[test]
 fn a_library_for_another_target_is_linked_untested() {
-    let folder = of_version("foreign", "3");
+    let folder = of_version("foreign", "2");
     let variables = [
         ("MIGTHUMO_LIB_DIR", folder.as_os_str()),
         ("TARGET", OsStr::new("riscv64gc-unknown-linux-gnu")),

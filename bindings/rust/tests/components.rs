@@ -119,6 +119,12 @@ fn by_its_own_name() {
     }
 }
 
+/// The program that is proved reads a copy of the table.
+#[test]
+fn the_table_is_that_of_the_program() {
+    assert!(TABLE == include_str!("../../../crates/records/stdin"), "the two copies of the table differ");
+}
+
 /// What an output holds before a call, every bit set: the largest number, and a NaN.
 const BEFORE: (usize, u64) = (usize::MAX, u64::MAX);
 

@@ -64,8 +64,7 @@ fn answers_both_ways() {
         let error: UnknownAnswer = Refusal::try_from(answer).unwrap_err();
         assert_eq!(error.answer(), answer);
         let error: Box<dyn std::error::Error> = Box::new(error);
-        let words = format!("{answer} is not the answer of a refusal: 2 to 6, 11, 12, 20 to 22, 267 or 268");
-        assert_eq!(error.to_string(), words);
+        assert_eq!(error.to_string(), format!("{answer} is not the answer of a refusal: 2 to 6, 11, 12, 267 or 268"));
     }
 }
 
@@ -90,7 +89,7 @@ fn no_two_refusals_read_alike() {
 
 #[test]
 fn the_version_is_the_one_that_was_built_for() {
-    assert_eq!((ffi::version(), VERSION), (3, 3));
+    assert_eq!((ffi::version(), VERSION), (2, 2));
 }
 
 /// A function of one matrix over slices.
