@@ -32,9 +32,10 @@ impl fmt::Display for Place {
 /// Why an operation gave no value. What it would have written to is as it was.
 ///
 /// Where more than one cause applies, the first in the order 5, 3, 4, then 11 and 12, then 6, 2 is given. Column and
-/// row numbers (11 and 12) are tested in the order in which they are handed in. Of a component record the first in the
-/// order 4, 20 for its flags, 21, 22, 20 for the rest of it is given. A later version may know more causes, so a `match`
-/// needs an arm for the rest.
+/// row numbers (11 and 12) are tested in the order in which they are handed in. A later version may know more causes,
+/// so a `match` needs an arm for the rest.
+///
+/// Of a component record the first in the order 4, 20 for its flags, 21, 22, 20 for the rest of it is given.
 ///
 /// ```
 /// use migthumo::{Matrix3, Place, Refusal};
