@@ -34,7 +34,6 @@ The verdict of each:
     fact       refused: a need of that function is not proved
     shape      refused: its proof file doesn't fit the code any more (a need has another name or another form); this shows
                nothing about the promise
-    walk       refused: it is proved by a walk by hand, which goes through this very code alone; this shows nothing either
     accepted   a survivor: proved, or wanting only in that a function which it calls isn't; it is tried once more with
                survivors alone
     no program the front end refuses it; another is drawn in its place
@@ -64,8 +63,10 @@ EQUAL = {
 # what the prover says where a proof's form, and no fact, is at fault: a need or a hypothesis of that name is not there, or a
 # rewriting finds nothing to rewrite
 SHAPE = [
-    r"that can be named from here",
+    r"can be named",
     r"has no field `",
+    r"has no `",
+    r"is not in scope",
     r"needs a function \(or path\) type to bind",
     r"`rw`: no part of the goal",
     r"`rw`: no occurrence of the path's left endpoint",
@@ -472,19 +473,14 @@ def copied(work):
     top = os.path.join(work, "copy")
     if os.path.commonpath([os.path.realpath(work), os.path.realpath(".")]) == os.path.realpath("."):
         sys.exit("--work: a folder outside the repository")
-    for name in ["crates", "crates.txt"]:
-        shutil.rmtree(os.path.join(top, name), ignore_errors=True)
-    for name in ["crates", "crates.txt", "target"]:
-        goal = os.path.join(top, name)
-        if os.path.isdir(name) and not os.path.isdir(goal):
-            shutil.copytree(name, goal, symlinks=True)
-        elif os.path.isfile(name):
-            shutil.copy(name, goal)
+    shutil.rmtree(top, ignore_errors=True)
+    shutil.copytree("crates", os.path.join(top, "crates"), ignore=shutil.ignore_patterns("out"))
+    shutil.copy("crates.txt", top)
     return top
 
 
 def check(top, crate, batch):
-    """What `rt dev` says of the crate with the mutants of the batch; the copy is put back after it."""
+    """What `rt check` says of the crate with the mutants of the batch; the copy is put back after it."""
     files = {m.file for m in batch}
     paths = {f: os.path.join(top, "crates", crate, "src", f) for f in files}
     before = {f: open(p, encoding="utf-8").read() for f, p in paths.items()}
@@ -492,7 +488,7 @@ def check(top, crate, batch):
         edits = [e for m in batch if m.file == f for e in m.edits]
         open(paths[f], "w", encoding="utf-8").write(apply(before[f], edits))
     try:
-        run = subprocess.run(["rt", "dev", crate], cwd=top, capture_output=True, env={**os.environ, "RT_CUT": "0"})
+        run = subprocess.run(["rt", "check"], cwd=os.path.join(top, "crates", crate), capture_output=True)
     finally:
         for f in files:
             open(paths[f], "w", encoding="utf-8").write(before[f])
@@ -504,7 +500,7 @@ def not_programs(log, top, crate, batch):
     if re.search(r"^logic=", log, re.M):
         return None
     found = {}
-    for file, line, said in re.findall(r"/src/(\w+\.rt):(\d+):\d+: (error.*)", log):
+    for file, line, said in re.findall(r"\bsrc/(\w+\.rt):(\d+):\d+: (error.*)", log):
         text = open(os.path.join(top, "crates", crate, "src", file), encoding="utf-8").read()
         for m in batch:
             if m.file == file and covers(text, batch, m, int(line)):
@@ -526,40 +522,31 @@ def covers(text, batch, m, line):
     return False
 
 
-def walked(top, crate, folder):
-    """Whether the proof in that folder is a walk by hand: it names no need of the borrow checker's."""
-    found = [p for p in glob.glob(f"{top}/crates/{crate}/proofs/**/Proof.antt", recursive=True) if p.endswith(folder)]
-    return bool(found) and all("tie." not in open(p, encoding="utf-8").read() for p in found)
-
-
 def said(log):
     """The path of a proof and the whole text of each error that is not of an earlier error's making."""
-    errors = re.findall(r"^(\S+Proof\.antt):\d+:\d+: error: (.*(?:\n  .*)*)", log, re.M)
+    errors = re.findall(r"^(\S+/(?:Answers|Invariants|Proof)\.antt):\d+:\d+: error: (.*(?:\n  .*)*)", log, re.M)
     return [(path, " ".join(e.split())) for path, e in errors if "was not admitted" not in e]
 
 
-def judge(log, top, m):
+def judge(log, m):
     """The verdict on a mutant that reached the prover, and what was said."""
-    lines, errors, proved, own, by_hand = log.split("\n"), said(log), [], [], False
+    lines, errors, proved, own = log.split("\n"), said(log), [], []
     for file, function in m.touches:
         record, _, name = function.rpartition("::")
         module = "" if file == "lib.rt" else file[:-3] + "::"
         called = rf"(?:\w+::)*{record}::{name}" if record else rf"{module}{name}"
-        folder = f"/{record or file[:-3]}/{name}/Proof.antt" if record or module else f"/proofs/{name}/Proof.antt"
+        folder = f"/{record or file[:-3]}/{name}" if record or module else f"/proofs/{name}"
         line = next((l for l in lines if re.match(rf"fn {m.crate}::{called}: ", l)), None)
         if line is None:
             continue
         proved.append(line.endswith(": proved"))
-        by_hand = by_hand or walked(top, m.crate, folder)
-        unclosed = re.search(r"`search` does not close .*", line)
+        unclosed = re.search(r"`search` did not prove .*", line)
         own += [unclosed.group()] if unclosed else []
-        own += [e for path, e in errors if path.endswith(folder)]
+        own += [e for path, e in errors if os.path.dirname(path).endswith(folder)]
         if re.search(r"not proved|no proof", line) and not own and "it calls" not in line:
             own.append(line.split(": ", 1)[1])
     if not proved:
         return "unclear", "the check names no function of it"
-    if own and by_hand:
-        return "walk", own[0][:200]
     facts = [l for l in own if not any(re.search(s, l) for s in SHAPE)]
     if facts:
         return "fact", facts[0][:200]
@@ -639,7 +626,7 @@ class Run:
             f.write(log)
         again = []
         for m in batch:
-            verdict, why = judge(log, self.top, m)
+            verdict, why = judge(log, m)
             if verdict == "accepted" and not last:
                 again.append(m)
             else:
@@ -649,7 +636,7 @@ class Run:
 
 def table(rows, key, order):
     """Lines of counts by crate or kind."""
-    verdicts = ["fact", "shape", "walk", "accepted", "unclear", "no program"]
+    verdicts = ["fact", "shape", "accepted", "unclear", "no program"]
     yield f"{key:10} " + " ".join(f"{v:>10}" for v in verdicts)
     for name in order + ["all"]:
         these = [r for r in rows if name in ("all", r[key])]
