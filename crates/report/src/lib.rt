@@ -84,6 +84,7 @@ fn tell(out: &mut [u8], r: Reading, brief: bool) -> usize
 }
 
 // The kind of verdict on a matrix with this sum.
+#[tactic(auto, using(crate::proofs::Whole::is_singular, crate::proofs::Whole::is_back, crate::proofs::Whole::is_rounded))]
 fn sum_verdict(sum: i64) -> Verdict
     ensures { result ≡ sum_verdict sum }
 {
