@@ -935,9 +935,16 @@ mod tests {
         assert_eq!(answer(2), Err(Refusal::Singular));
         assert_eq!([answer(11), answer(267)], [Place::First, Place::Second].map(|place| Err(Refusal::Column(place))));
         assert_eq!([answer(12), answer(268)], [Place::First, Place::Second].map(|place| Err(Refusal::Row(place))));
+        for number in [1, 7, 255, 256, 258, 523, 524, u32::MAX] {
+            assert_eq!(answer(number), Err(Refusal::Unknown(number)));
+        }
+    }
+
+    #[test]
+    fn an_answer_of_a_component_record() {
         assert_eq!(answer(20), Err(Refusal::RecordEnds));
         assert_eq!([answer(21), answer(22)], [Refusal::ScaleFlags, Refusal::PointNumbers].map(Err));
-        for number in [1, 7, 19, 23, 255, 256, 258, 276, 523, 524, u32::MAX] {
+        for number in [19, 23, 276] {
             assert_eq!(answer(number), Err(Refusal::Unknown(number)));
         }
     }

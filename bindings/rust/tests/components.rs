@@ -265,3 +265,20 @@ fn the_way_back() {
     let flat = matrix(&[0x00, 0x0a, 0x00, 0x00, 0x00, 0x00, 0x00, 0x00]);
     assert_eq!((flat.undoable(), flat.invert()), (Ok(false), Err(Singular)));
 }
+
+#[test]
+fn numbers_and_words_of_its_refusals() {
+    for (text, refusal, words) in SAYS {
+        let number: u32 = text.parse().unwrap();
+        assert_eq!((refusal.answer(), refusal.number(), refusal.place()), (number, number, None));
+        assert_eq!((Refusal::from_answer(number), u32::from(refusal)), (Some(refusal), number));
+        assert_eq!(Refusal::try_from(number), Ok(refusal));
+        let error: Box<dyn std::error::Error> = Box::new(refusal);
+        assert_eq!(error.to_string(), words);
+    }
+    // The numbers beside them, and these with a place that they don't have, are answers of no refusal.
+    for answer in [19, 23, 276, 277, 278] {
+        assert_eq!(Refusal::from_answer(answer), None);
+        assert_eq!(Refusal::try_from(answer).unwrap_err().answer(), answer);
+    }
+}

@@ -4,9 +4,7 @@
 use migthumo::{ffi, Matrix2, Matrix3, Matrix4, Place, Refusal, UnknownAnswer, VERSION};
 use std::collections::HashSet;
 use Place::{First, Second};
-use Refusal::{
-    Column, InputLength, NotWhole, Order, OutputLength, PointNumbers, RecordEnds, Row, ScaleFlags, Singular, Unknown,
-};
+use Refusal::{Column, InputLength, NotWhole, Order, OutputLength, Row, Singular, Unknown};
 
 /// What an output holds before a call.
 const BEFORE: f64 = 7.5;
@@ -23,7 +21,7 @@ fn refused(length: usize, call: impl FnOnce(&mut [f64]) -> Result<(), Refusal>) 
 }
 
 /// Every refusal that the crate knows: what is answered, its number, its place, its words.
-const KNOWN: [(Refusal, u32, u32, Option<Place>, &str); 12] = [
+const KNOWN: [(Refusal, u32, u32, Option<Place>, &str); 9] = [
     (Singular, 2, 2, None, "refusal 2: the determinant compares equal to zero"),
     (InputLength, 3, 3, None, "refusal 3: an input slice has the wrong length"),
     (OutputLength, 4, 4, None, "refusal 4: the output slice has the wrong length"),
@@ -31,17 +29,13 @@ const KNOWN: [(Refusal, u32, u32, Option<Place>, &str); 12] = [
     (NotWhole, 6, 6, None, "refusal 6: an entry is not a whole number of magnitude at most 1024"),
     (Column(First), 11, 11, Some(First), "refusal 11: the first column number is not below the order"),
     (Row(First), 12, 12, Some(First), "refusal 12: the first row number is not below the order"),
-    (RecordEnds, 20, 20, None, "refusal 20: the bytes end inside the record"),
-    (ScaleFlags, 21, 21, None, "refusal 21: more than one of the scale flags 0x0008, 0x0040 and 0x0080 is set"),
-    (PointNumbers, 22, 22, None, "refusal 22: the offsets are point numbers: flag 0x0002 is clear"),
     (Column(Second), 267, 11, Some(Second), "refusal 11: the second column number is not below the order"),
     (Row(Second), 268, 12, Some(Second), "refusal 12: the second row number is not below the order"),
 ];
 
 /// Answers that are none of theirs: 0; 1, which stood for any column or row up to version 1; known numbers with a place
 /// that they don't have; and others.
-const OTHERS: [u32; 19] =
-    [0, 1, 7, 10, 13, 19, 23, 255, 256, 257, 258, 262, 276, 277, 278, 523, 524, 1 << 16, u32::MAX];
+const OTHERS: [u32; 14] = [0, 1, 7, 10, 13, 255, 256, 257, 258, 262, 523, 524, 1 << 16, u32::MAX];
 
 #[test]
 fn numbers_places_and_words() {
@@ -84,7 +78,7 @@ fn no_two_refusals_read_alike() {
     let known = KNOWN.map(|(refusal, ..)| refusal);
     let all: HashSet<Refusal> = known.into_iter().chain((0..1024).map(Unknown)).collect();
     let texts: HashSet<String> = all.iter().map(Refusal::to_string).collect();
-    assert_eq!((all.len(), texts.len()), (12 + 1024, 12 + 1024));
+    assert_eq!((all.len(), texts.len()), (9 + 1024, 9 + 1024));
 }
 
 #[test]

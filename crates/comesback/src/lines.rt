@@ -1,5 +1,5 @@
 // Lines of standard input, each answered by `report::verdict_line`, and the totals by `report::totals_line`.
-ghost use Rattle.std.specs.Prelude.{◌≤◌, length, IfOk};
+ghost use Rattle.std.specs.Prelude.{◌≡◌, ◌≤◌, length, IfOk, OnErr};
 
 use crate::output;
 use report::{Totals, Verdict};
@@ -54,7 +54,8 @@ fn end(rt: &impl Print, line: &[u8], read: Progress) -> io::Result<Progress>
 // A byte of the input.
 fn byte(rt: &impl Print, line: &mut [u8], read: Progress, value: u8) -> io::Result<Progress>
     requires { read.at ≤ length line.old }
-    ensures { IfOk result (λ p. p.at ≤ length line.new) }
+    ensures ok { IfOk result (λ p. p.at ≤ length line.new) }
+    ensures err { OnErr result (line.new ≡ line.old) }
 {
     if value == b'\n' {
         return end(rt, line, read);
@@ -79,7 +80,8 @@ fn byte(rt: &impl Print, line: &mut [u8], read: Progress, value: u8) -> io::Resu
 // Bytes of the input, one after the other.
 fn bytes(rt: &impl Print, line: &mut [u8], read: Progress, input: &[u8]) -> io::Result<Progress>
     requires { read.at ≤ length line.old }
-    ensures { IfOk result (λ p. p.at ≤ length line.new) }
+    ensures ok { IfOk result (λ p. p.at ≤ length line.new) }
+    ensures err { OnErr result (length line.new ≡ length line.old) }
 {
     let mut progress = read;
     for value in input {

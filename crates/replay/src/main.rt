@@ -19,6 +19,8 @@ mod vectors;
 mod whole_numbers;
 mod words;
 
+ghost use Rattle.std.specs.Prelude.{◌≤◌, length, IfOk};
+
 use line::replayed;
 use list::line_end;
 use std::io;
@@ -26,21 +28,42 @@ use std::io::Read;
 use tally::Tally;
 
 // How many bytes of the list are read at most.
-const LENGTH: u64 = 2097152;
+const LENGTH: usize = 2097152;
 
 // Reads the list from the standard input, and writes the report.
 fn main(rt: HostRuntime) -> io::Result<()> {
-    let mut text = Vec::new(rt.alloc());
-    rt.reader().take(LENGTH).read_to_end(&mut text)?;
-    read_slice(&rt, &text)
+    let mut text = [0u8; LENGTH];
+    read_array(&rt, &mut text)
 }
 
-// The report of a list that was read, unless there may be more of it.
-fn read_slice(rt: &impl Print, text: &[u8]) -> io::Result<()> {
-    if text.len() as u64 == LENGTH {
+// The same, with room for the list.
+fn read_array(rt: &(impl Input + Print), text: &mut [u8; LENGTH]) -> io::Result<()> {
+    read_slice(rt, text)
+}
+
+// The same, with room of any length.
+fn read_slice(rt: &(impl Input + Print), text: &mut [u8]) -> io::Result<()> {
+    let n = read_full(rt, text)?;
+    if n == text.len() {
         return rt.write_all(b"the list is too long\n");
     }
-    report::report(rt, &counted(text))
+    report::report(rt, &counted(&text[..n]))
+}
+
+// Reads until the room is full or the input ends: how many bytes there are.
+fn read_full(rt: &impl Input, text: &mut [u8]) -> io::Result<usize>
+    ensures { IfOk result (λ n. n ≤ length text.new) }
+{
+    let mut input = rt.reader();
+    let mut n = 0;
+    for _ in 0..u64::MAX {
+        let got = input.read(&mut text[n..])?;
+        if got == 0 {
+            return Ok(n);
+        }
+        n += got;
+    }
+    Ok(n)
 }
 
 // What the lines come to.
