@@ -8,14 +8,15 @@ use lib.Dec.{leb}
 use lib.ListN.{length}
 use lib.IntN.{ℤ, pos}
 use borrow.Author.Tests.{eq-eqb, ne_eqb, le-leb, lt-leb}
-use Rattle.vector.specs.Refusals.{given, refused_for}
-use Rattle.vector.specs.declared.refusal.Refusal.TheVariants.{RecordEnds, ScaleFlags, PointNumbers}
+use Rattle.vector.specs.Refusals.{given}
+use Rattle.component.specs.Fault.{faulted}
+use Rattle.component.specs.declared.fault.Fault.TheVariants.{RecordEnds, ScaleFlags, PointNumbers}
 use Rattle.component.specs.Record.{bit, scale_flags, bytes_hold, one_scale_flag, offsets_are_values, short, tiny, offsets, scales, offsets_at, scales_at}
 
 -- ---- the refusals
 
 module _ (bytes : List ℕ) (at n : ℕ) (found : Bool) (is : found ≡ leb (at + n) (length bytes)) where
-  pub bytes_end : found ≡ false → bytes_hold bytes at n ≡ refused_for RecordEnds
+  pub bytes_end : found ≡ false → bytes_hold bytes at n ≡ faulted RecordEnds
   unfolding bytes_hold
   bytes_end e = rw (sym is ∙ e)
 
@@ -25,7 +26,7 @@ module _ (bytes : List ℕ) (at n : ℕ) (found : Bool) (is : found ≡ leb (at 
 
 -- n is the count that the code holds, v the flags that the definition reads
 module _ (flags v n : ℕ) (counted : n ≡ scale_flags flags) (is : flags ≡ v) where
-  pub flags_many : 1 < n → one_scale_flag v ≡ refused_for ScaleFlags
+  pub flags_many : 1 < n → one_scale_flag v ≡ faulted ScaleFlags
   unfolding one_scale_flag
   flags_many h = rw (← is, ← counted, lt-leb n 1 h)
 
@@ -33,7 +34,7 @@ module _ (flags v n : ℕ) (counted : n ≡ scale_flags flags) (is : flags ≡ v
   unfolding one_scale_flag
   flags_few h = rw (← is, ← counted, le-leb n 1 h)
 
-pub points : (flags : ℕ) → bit flags 0x0002 ≡ 0 → offsets_are_values flags ≡ refused_for PointNumbers
+pub points : (flags : ℕ) → bit flags 0x0002 ≡ 0 → offsets_are_values flags ≡ faulted PointNumbers
 unfolding offsets_are_values
 points flags e = rw (eq-eqb (bit flags 0x0002) 0 e)
 

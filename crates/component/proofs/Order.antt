@@ -4,8 +4,9 @@ use mathlib.Core.Path.{◌≡◌, refl, sym, ap, ◌∙◌}
 use mathlib.Core.List.{List}
 use Prim.Native.Nat.{ℕ}
 use native.Mathlib.Omega.{arith}
-use Rattle.vector.specs.Refusals.{Outcome, given, refused, Meant, refused_for, after}
-use Rattle.vector.specs.declared.refusal.Refusal.{Refusal}
+use Rattle.vector.specs.Refusals.{Outcome, given, refused, Meant, after}
+use Rattle.component.specs.Fault.{faulted}
+use Rattle.component.specs.declared.fault.Fault.{Fault}
 use Rattle.component.specs.declared.Component.{Component}
 use Rattle.component.specs.declared.flags.FlagsAnswer.{FlagsAnswer}
 use Rattle.component.specs.declared.flags.FlagsAnswer.TheVariants.{Given, Refused}
@@ -32,7 +33,7 @@ rest_of bytes at flags = after (offsets_are_values flags) (after (bytes_hold byt
 module _ (bytes : List ℕ) (at : ℕ) (answer : FlagsAnswer)
     (is : flags_outcome answer ≡ after (bytes_hold bytes at 2) (after (one_scale_flag (word bytes at)) (given (word bytes at)))) where
   -- its refusal is the answer
-  pub stopped : (cause : Refusal) → answer ≡ Refused cause → refused_for cause ≡ read_component bytes at
+  pub stopped : (cause : Fault) → answer ≡ Refused cause → faulted cause ≡ read_component bytes at
   unfolding read_component
   stopped cause e = refuse_all (bytes_hold bytes at 2) (one_scale_flag (word bytes at)) (word bytes at) (rest_of bytes at (word bytes at)) _ (sym (ap flags_outcome e) ∙ is)
 

@@ -10,8 +10,9 @@ use lib.Dec.{leb, eqb}
 use lib.ListN.{length, get_or, take, drop, length-take, length-drop, length-append, get_or-append}
 use lib.Seq.{get_or-take, get_or-drop, length-take-le}
 use borrow.Author.Tests.{le-leb, leb-true, eqb-true}
-use Rattle.vector.specs.Refusals.{Outcome, given, refused, refused_for, after}
-use Rattle.vector.specs.declared.refusal.Refusal.TheVariants.{RecordEnds}
+use Rattle.vector.specs.Refusals.{Outcome, given, refused, after}
+use Rattle.component.specs.Fault.{faulted}
+use Rattle.component.specs.declared.fault.Fault.TheVariants.{RecordEnds}
 use Rattle.component.specs.declared.Component.{Component}
 use Rattle.component.specs.Bytes.{byte, word, twos_complement}
 use Rattle.component.specs.Record.{bit, offset_size, offsets_from, scales_from, size, bytes_hold, one_scale_flag, offsets_are_values, short, tiny, offsets_at, scales_at, component_at, read_component}
@@ -179,11 +180,11 @@ module _ (bytes more : List ℕ) (at : ℕ) where
   rest : List ℕ → ℕ → Outcome Component
   rest l flags = after (bytes_hold l at (size flags)) (given (component_at l at flags))
 
-  rest_same : (flags : ℕ) → (rest (bytes ++ more) flags ≡ rest bytes flags) ⊎ (rest bytes flags ≡ refused_for RecordEnds)
+  rest_same : (flags : ℕ) → (rest (bytes ++ more) flags ≡ rest bytes flags) ⊎ (rest bytes flags ≡ faulted RecordEnds)
   unfolding rest bytes_hold
   rest_same flags = go (leb (at + size flags) (length bytes)) refl
     where
-      go : (b : Bool) → leb (at + size flags) (length bytes) ≡ b → (rest (bytes ++ more) flags ≡ rest bytes flags) ⊎ (rest bytes flags ≡ refused_for RecordEnds)
+      go : (b : Bool) → leb (at + size flags) (length bytes) ≡ b → (rest (bytes ++ more) flags ≡ rest bytes flags) ⊎ (rest bytes flags ≡ faulted RecordEnds)
       go true e =
           let enough = leb-true (at + size flags) (length bytes) e in
           inl (rw (e, le-leb (at + size flags) (length (bytes ++ more)) (omega (arith, longer)))
@@ -196,12 +197,12 @@ module _ (bytes more : List ℕ) (at : ℕ) where
   behind_flags l flags h is = rw (le-leb (at + 2) (length l) h, is)
 
   -- where it is not there the answer is 20
-  no_flags : leb (at + 2) (length bytes) ≡ false → read_component bytes at ≡ refused_for RecordEnds
+  no_flags : leb (at + 2) (length bytes) ≡ false → read_component bytes at ≡ faulted RecordEnds
   unfolding read_component bytes_hold
   no_flags e = rw e
 
   -- an answer that is not 20 stays the same whatever follows
-  follows : (read_component bytes at ≡ refused_for RecordEnds → ⊥) → read_component (bytes ++ more) at ≡ read_component bytes at
+  follows : (read_component bytes at ≡ faulted RecordEnds → ⊥) → read_component (bytes ++ more) at ≡ read_component bytes at
   follows other = go (leb (at + 2) (length bytes)) refl
     where
       go : (b : Bool) → leb (at + 2) (length bytes) ≡ b → read_component (bytes ++ more) at ≡ read_component bytes at

@@ -3,10 +3,11 @@
 use Rattle.std.specs.Prelude.{ℕ, ◌+◌, ◌-◌, ◌≤◌, ◌<◌, ◌≡◌, List, ◌++◌, pos, length, take, drop}
 use Rattle.exact.specs.Value.{Exact}
 use Rattle.vector.specs.Arithmetic.{float0, float1}
-use Rattle.vector.specs.Refusals.{given, refused_for}
-use Rattle.vector.specs.declared.refusal.Refusal.TheVariants.{RecordEnds}
+use Rattle.vector.specs.Refusals.{given}
 use Rattle.matrix.specs.declared.records.Matrix3.{Matrix3}
 use Rattle.component.specs.Bytes.{byte, f2dot14}
+use Rattle.component.specs.Fault.{faulted}
+use Rattle.component.specs.declared.fault.Fault.TheVariants.{RecordEnds}
 use Rattle.component.specs.Record.{size, offsets_from, scales_from, offsets_at, scales_at, read_component}
 use Rattle.component.specs.declared.Component.{Component}
 use Rattle.component.specs.declared.numbers.Offsets.{Offsets}
@@ -62,4 +63,4 @@ pub record OwnBytesDecide : Type 0 where
       → take (c.after - at) (drop elsewhere others) ≡ own_bytes bytes at c → read_component others elsewhere ≡ given (moved_to at elsewhere c)
   pub alike : (bytes others : List ℕ) (at elsewhere : ℕ) (c d : Component) → read_component bytes at ≡ given c → read_component others elsewhere ≡ given d
       → own_bytes bytes at c ≡ own_bytes others elsewhere d → Alike at elsewhere c d
-  pub follows : (bytes more : List ℕ) (at : ℕ) → (read_component bytes at ≡ refused_for RecordEnds → ⊥) → read_component (bytes ++ more) at ≡ read_component bytes at
+  pub follows : (bytes more : List ℕ) (at : ℕ) → (read_component bytes at ≡ faulted RecordEnds → ⊥) → read_component (bytes ++ more) at ≡ read_component bytes at

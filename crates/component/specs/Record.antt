@@ -4,11 +4,12 @@ use Rattle.std.specs.Prelude.{ℕ, ◌+◌, ◌*◌, ◌/◌, ◌%◌, cond, Lis
 use Rattle.std.specs.Float.{binary64}
 use Rattle.std.specs.Float.Ieee.{of_int}
 use Rattle.vector.specs.Arithmetic.{float0, float1}
-use Rattle.vector.specs.Refusals.{Outcome, given, refused_for, after}
-use Rattle.vector.specs.declared.refusal.Refusal.TheVariants.{RecordEnds, ScaleFlags, PointNumbers}
+use Rattle.vector.specs.Refusals.{Outcome, given, after}
 use Rattle.matrix.specs.Records.{new3}
 use Rattle.matrix.specs.declared.records.Matrix3.{Matrix3}
 use Rattle.component.specs.Bytes.{byte, word, twos_complement, f2dot14}
+use Rattle.component.specs.Fault.{faulted}
+use Rattle.component.specs.declared.fault.Fault.TheVariants.{RecordEnds, ScaleFlags, PointNumbers}
 use Rattle.component.specs.declared.Component.{Component}
 use Rattle.component.specs.declared.ComponentAnswer.{ComponentAnswer}
 use Rattle.component.specs.declared.ComponentAnswer.TheVariants as answer
@@ -50,15 +51,15 @@ size flags = 4 + 2 * offset_size flags + 2 * scale_count flags
 
 -- 20 unless so many bytes stand at the place
 unfoldable pub bytes_hold : List ℕ → (at n : ℕ) → Outcome Unit
-bytes_hold bytes at n = cond (leb (at + n) (length bytes)) (given tt) (refused_for RecordEnds)
+bytes_hold bytes at n = cond (leb (at + n) (length bytes)) (given tt) (faulted RecordEnds)
 
 -- 21 where more than one scale flag is set
 unfoldable pub one_scale_flag : ℕ → Outcome Unit
-one_scale_flag flags = cond (leb (scale_flags flags) 1) (given tt) (refused_for ScaleFlags)
+one_scale_flag flags = cond (leb (scale_flags flags) 1) (given tt) (faulted ScaleFlags)
 
 -- 22 where 0x0002 is clear: the offsets are point numbers
 unfoldable pub offsets_are_values : ℕ → Outcome Unit
-offsets_are_values flags = cond (eqb (bit flags 0x0002) 0) (refused_for PointNumbers) (given tt)
+offsets_are_values flags = cond (eqb (bit flags 0x0002) 0) (faulted PointNumbers) (given tt)
 
 -- ---- what the bytes say, in whole numbers
 
@@ -122,9 +123,9 @@ read_component bytes at =
 -- what an answer that gives a component means
 abbrev pub component_outcome : ComponentAnswer → Outcome Component
 component_outcome (answer.Given c) = given c
-component_outcome (answer.Refused cause) = refused_for cause
+component_outcome (answer.Refused cause) = faulted cause
 
 -- what the answer to a record's first two bytes means: its flags
 abbrev pub flags_outcome : FlagsAnswer → Outcome ℕ
 flags_outcome (flags.Given f) = given f
-flags_outcome (flags.Refused cause) = refused_for cause
+flags_outcome (flags.Refused cause) = faulted cause

@@ -6,13 +6,13 @@ ghost use Rattle.component.specs.Record.{offset_size, scale_flags, scale_count, 
 ghost use Rattle.component.specs.Record.{bytes_hold, one_scale_flag, flags_outcome};
 
 use crate::bytes::{hold, word_at};
-use vector::Refusal;
+use crate::fault::Fault;
 
 // The flags of a record, or the cause of a refusal and no flags.
 #[derive(Clone, Copy)]
 pub(crate) enum FlagsAnswer {
     Given(u16),
-    Refused(Refusal),
+    Refused(Fault),
 }
 
 // How many bytes an offset takes: two with 0x0001, else one.
@@ -48,11 +48,11 @@ pub(crate) fn flags_at(bytes: &[u8], at: usize) -> FlagsAnswer
     ensures { flags_outcome result ≡ after (bytes_hold bytes.now at 2) (after (one_scale_flag (word bytes.now at)) (given (word bytes.now at))) }
 {
     if !hold(bytes, at, 2) {
-        return FlagsAnswer::Refused(Refusal::RecordEnds);
+        return FlagsAnswer::Refused(Fault::RecordEnds);
     }
     let flags = word_at(bytes, at);
     if scale_flags(flags) > 1 {
-        return FlagsAnswer::Refused(Refusal::ScaleFlags);
+        return FlagsAnswer::Refused(Fault::ScaleFlags);
     }
     FlagsAnswer::Given(flags)
 }

@@ -3,6 +3,7 @@
 #![tactic(auto)]
 
 mod bytes;
+pub mod fault;
 mod flags;
 pub mod numbers;
 
@@ -11,9 +12,9 @@ ghost use Rattle.vector.specs.Refusals.{given, after};
 ghost use Rattle.component.specs.Record.{size, offsets_are_values, bytes_hold, component_at};
 ghost use Rattle.component.specs.Record.{component_outcome, read_component};
 
+pub use fault::Fault;
 use flags::FlagsAnswer;
 use matrix::Matrix3;
-use vector::Refusal;
 
 // One component: which glyph is borrowed, and through which matrix.
 #[derive(Clone, Copy)]
@@ -32,7 +33,7 @@ pub struct Component {
 #[derive(Clone, Copy)]
 pub enum ComponentAnswer {
     Given(Component),
-    Refused(Refusal),
+    Refused(Fault),
 }
 
 // The component at a place, of a record with these flags that is all there.
@@ -58,10 +59,10 @@ fn record_at(bytes: &[u8], at: usize, flags: u16) -> ComponentAnswer
     ensures { component_outcome result ≡ after (offsets_are_values flags) (after (bytes_hold bytes.now at (size flags)) (given (component_at bytes.now at flags))) }
 {
     if flags / 0x0002 % 2 == 0 {
-        return ComponentAnswer::Refused(Refusal::PointNumbers);
+        return ComponentAnswer::Refused(Fault::PointNumbers);
     }
     if !bytes::hold(bytes, at, flags::size(flags)) {
-        return ComponentAnswer::Refused(Refusal::RecordEnds);
+        return ComponentAnswer::Refused(Fault::RecordEnds);
     }
     ComponentAnswer::Given(component_at(bytes, at, flags))
 }

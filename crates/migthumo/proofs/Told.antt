@@ -7,7 +7,7 @@ use Rattle.vector.specs.declared.refusal.Place.TheVariants.{First, Second}
 use Rattle.vector.specs.declared.refusal.Placed.{Placed}
 use Rattle.vector.specs.declared.refusal.Placed.TheVariants.{At, Nowhere}
 use Rattle.vector.specs.declared.refusal.Refusal.{Refusal}
-use Rattle.vector.specs.declared.refusal.Refusal.TheVariants.{Column, Row, Singular, InputLength, OutputLength, Order, NotWhole, RecordEnds, ScaleFlags, PointNumbers}
+use Rattle.vector.specs.declared.refusal.Refusal.TheVariants.{Column, Row, Singular, InputLength, OutputLength, Order, NotWhole}
 use Rattle.vector.specs.Refusals.{Meant, bare, placed, means, number_of, place_of}
 use Rattle.vector.proofs.Answers.{cause, one_meaning}
 use Rattle.migthumo.specs.Entries.{code_of, second, CodeTells}
@@ -30,9 +30,6 @@ back InputLength = refl
 back OutputLength = refl
 back Order = refl
 back NotWhole = refl
-back RecordEnds = refl
-back ScaleFlags = refl
-back PointNumbers = refl
 
 -- no cause answers 0 or 1
 pub above_one : (r : Refusal) → 1 < answer r
@@ -45,9 +42,6 @@ above_one InputLength = lit< tt
 above_one OutputLength = lit< tt
 above_one Order = lit< tt
 above_one NotWhole = lit< tt
-above_one RecordEnds = lit< tt
-above_one ScaleFlags = lit< tt
-above_one PointNumbers = lit< tt
 
 -- the last eight bits are the number
 low : (r : Refusal) → answer r % 256 ≡ number_of (means r)
@@ -60,9 +54,6 @@ low InputLength = refl
 low OutputLength = refl
 low Order = refl
 low NotWhole = refl
-low RecordEnds = refl
-low ScaleFlags = refl
-low PointNumbers = refl
 
 -- what stands above them is 1 where the place is the second, and 0 elsewhere
 high : (r : Refusal) → answer r / 256 ≡ second (place_of (means r))
@@ -75,14 +66,11 @@ high InputLength = refl
 high OutputLength = refl
 high Order = refl
 high NotWhole = refl
-high RecordEnds = refl
-high ScaleFlags = refl
-high PointNumbers = refl
 
 -- ---- what the code adds up
 
--- no number passes 22
-pub small : (r : Refusal) → number_of (means r) ≤ 22
+-- no number passes 12
+pub small : (r : Refusal) → number_of (means r) ≤ 12
 small (Column place) = lit≤ tt
 small (Row place) = lit≤ tt
 small Singular = lit≤ tt
@@ -90,9 +78,6 @@ small InputLength = lit≤ tt
 small OutputLength = lit≤ tt
 small Order = lit≤ tt
 small NotWhole = lit≤ tt
-small RecordEnds = lit≤ tt
-small ScaleFlags = lit≤ tt
-small PointNumbers = lit≤ tt
 
 -- a number, and 256 more at the second place
 abbrev code_at : ℕ → Placed → ℕ

@@ -181,7 +181,7 @@ pub(crate) fn component(answer: ComponentAnswer, head: &mut [usize], m: &mut [f6
     ensures { Answers result (head.old, m.old) (head.new, m.new) (over component_numbers (component_outcome answer)) }
 {
     match answer {
-        ComponentAnswer::Refused(cause) => code::of_cause(cause),
+        ComponentAnswer::Refused(fault) => code::of_fault(fault),
         ComponentAnswer::Given(c) => {
             head[0] = c.flags as usize;
             head[1] = c.index as usize;

@@ -12,7 +12,7 @@ pub(crate) fn name(rt: &impl Print, text: &[u8]) -> io::Result<()> {
 // What it gives.
 pub(crate) fn answer(rt: &impl Print, found: ComponentAnswer) -> io::Result<()> {
     match found {
-        ComponentAnswer::Refused(cause) => number(rt, cause.number() as u64)?,
+        ComponentAnswer::Refused(fault) => number(rt, fault.number() as u64)?,
         ComponentAnswer::Given(c) => given(rt, c)?,
     }
     println!(rt; "")

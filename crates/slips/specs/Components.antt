@@ -4,11 +4,12 @@ use Rattle.std.specs.Prelude.{ℕ, ◌+◌, ◌-◌, ◌%◌, ◌^◌, cond, Lis
 use Rattle.std.specs.Float.{binary64}
 use Rattle.std.specs.Float.Ieee.{of_int}
 use Rattle.vector.specs.Arithmetic.{◌⊘◌, float0, float1}
-use Rattle.vector.specs.Refusals.{Outcome, given, refused_for, after}
-use Rattle.vector.specs.declared.refusal.Refusal.TheVariants.{RecordEnds}
+use Rattle.vector.specs.Refusals.{Outcome, given, after}
 use Rattle.matrix.specs.Records.{new3}
 use Rattle.matrix.specs.declared.records.Matrix3.{Matrix3}
 use Rattle.component.specs.Bytes.{byte, word, f2dot14}
+use Rattle.component.specs.Fault.{faulted}
+use Rattle.component.specs.declared.fault.Fault.TheVariants.{RecordEnds}
 use Rattle.component.specs.Record.{bit, offsets_from, scales_from, size, bytes_hold, one_scale_flag, offsets_are_values, short, offsets, scales, offsets_at, scales_at, matrix_of, component_at, read_component}
 use Rattle.component.specs.declared.Component.{Component}
 use Rattle.component.specs.declared.numbers.Offsets.{Offsets}
@@ -84,7 +85,7 @@ scale_alone bytes i flags =
 
 -- slip: the place and what is wanted there are added in 64 bits, so that a large place comes round
 abbrev pub bytes_hold_round : List ℕ → (at n : ℕ) → Outcome Unit
-bytes_hold_round bytes at n = cond (leb ((at + n) % 2 ^ 64) (length bytes)) (given tt) (refused_for RecordEnds)
+bytes_hold_round bytes at n = cond (leb ((at + n) % 2 ^ 64) (length bytes)) (given tt) (faulted RecordEnds)
 
 -- ---- the inputs
 

@@ -1,11 +1,11 @@
 -- Two answers that mean the same outcome are the same answer: so a promise on the meaning leaves nothing loose.
 -- Assumes nothing.
 use mathlib.Core.Path.{◌≡◌, refl, sym, ap, ◌∙◌}
-use Prim.Native.Nat.{ℕ}
+use Prim.Native.Nat.{ℕ, zero, suc}
 use mathlib.Core.Bool.{cond}
 use lib.Dec.{eqb}
 use Rattle.vector.specs.declared.refusal.Refusal.{Refusal}
-use Rattle.vector.specs.declared.refusal.Refusal.TheVariants.{Column, Row, Singular, InputLength, OutputLength, Order, NotWhole, RecordEnds, ScaleFlags, PointNumbers}
+use Rattle.vector.specs.declared.refusal.Refusal.TheVariants.{Column, Row, Singular, InputLength, OutputLength, Order, NotWhole}
 use Rattle.vector.specs.declared.Vector2Answer.{Vector2Answer}
 use Rattle.vector.specs.declared.Vector3Answer.{Vector3Answer}
 use Rattle.vector.specs.declared.Vector4Answer.{Vector4Answer}
@@ -16,14 +16,13 @@ use Rattle.vector.specs.Refusals.{Outcome, given, refused, Meant, bare, placed, 
 
 -- the cause that stands for a number without a place
 abbrev unplaced : ℕ → Refusal
-unplaced n =
-    cond (eqb n 2) Singular
-    (cond (eqb n 3) InputLength
-    (cond (eqb n 4) OutputLength
-    (cond (eqb n 5) Order
-    (cond (eqb n 6) NotWhole
-    (cond (eqb n 20) RecordEnds
-    (cond (eqb n 21) ScaleFlags PointNumbers))))))
+unplaced zero = Singular
+unplaced (suc zero) = Singular
+unplaced (suc (suc zero)) = Singular
+unplaced (suc (suc (suc zero))) = InputLength
+unplaced (suc (suc (suc (suc zero)))) = OutputLength
+unplaced (suc (suc (suc (suc (suc zero))))) = Order
+unplaced (suc (suc (suc (suc (suc (suc n)))))) = NotWhole
 
 -- the cause that has a meaning
 abbrev pub cause : Meant → Refusal
@@ -39,9 +38,6 @@ cause_means InputLength = refl
 cause_means OutputLength = refl
 cause_means Order = refl
 cause_means NotWhole = refl
-cause_means RecordEnds = refl
-cause_means ScaleFlags = refl
-cause_means PointNumbers = refl
 
 -- what can be read back from its meaning has one meaning
 pub one_meaning : {A B : Type 0} (meaning : A → B) (back : B → A) → ((a : A) → back (meaning a) ≡ a) → (a b : A) → meaning a ≡ meaning b → a ≡ b

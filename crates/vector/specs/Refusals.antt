@@ -1,12 +1,11 @@
 -- Document 01, 'The numbers a refusal carries', and document 02, No. 1, 'Say column or row': an outcome is the values given, or what the refusal means.
--- Document 02, No. 2, 'Read component records', has 20, 21 and 22.
 -- What each kind of answer of this crate means as an outcome. Assumes nothing.
 use Rattle.std.specs.Prelude.{ℕ, cond, ltb}
 use Rattle.vector.specs.declared.refusal.Place.{Place}
 use Rattle.vector.specs.declared.refusal.Placed.{Placed}
 use Rattle.vector.specs.declared.refusal.Placed.TheVariants.{At, Nowhere}
 use Rattle.vector.specs.declared.refusal.Refusal.{Refusal}
-use Rattle.vector.specs.declared.refusal.Refusal.TheVariants.{Column, Row, Singular, InputLength, OutputLength, Order, NotWhole, RecordEnds, ScaleFlags, PointNumbers}
+use Rattle.vector.specs.declared.refusal.Refusal.TheVariants.{Column, Row, Singular, InputLength, OutputLength, Order, NotWhole}
 use Rattle.vector.specs.declared.Vector2.{Vector2}
 use Rattle.vector.specs.declared.Vector3.{Vector3}
 use Rattle.vector.specs.declared.Vector4.{Vector4}
@@ -27,8 +26,7 @@ pub data Outcome (A : Type 0) : Type 0 where
   given : A → Outcome A
   refused : Meant → Outcome A
 
--- what each cause means: 11 a column out of range, 12 a row out of range, each with first or second; 1 is retired;
--- 20 bytes end inside the record, 21 more than one scale flag, 22 offsets are point numbers
+-- what each cause means: 11 a column out of range, 12 a row out of range, each with first or second; 1 is retired
 abbrev pub means : Refusal → Meant
 means (Column place) = placed 11 place
 means (Row place) = placed 12 place
@@ -37,9 +35,6 @@ means InputLength = bare 3
 means OutputLength = bare 4
 means Order = bare 5
 means NotWhole = bare 6
-means RecordEnds = bare 20
-means ScaleFlags = bare 21
-means PointNumbers = bare 22
 
 -- the number of a refusal
 abbrev pub number_of : Meant → ℕ

@@ -1,4 +1,4 @@
-// The causes of a refusal: document 01, 'The numbers a refusal carries'; document 02, No. 1, 'Say column or row', and No. 2, 'Read component records'.
+// The causes of a refusal: document 01, 'The numbers a refusal carries', and document 02, No. 1, 'Say column or row'.
 ghost use Rattle.std.specs.Prelude.{◌≡◌};
 ghost use Rattle.vector.specs.Refusals.{means, number_of, place_of};
 
@@ -33,12 +33,6 @@ pub enum Refusal {
     Order,
     // An entry is not a whole number of magnitude at most 1024.
     NotWhole,
-    // The bytes end inside the component record.
-    RecordEnds,
-    // More than one scale flag of a component record is set.
-    ScaleFlags,
-    // The offsets of a component record are point numbers.
-    PointNumbers,
 }
 
 impl Refusal {
@@ -54,9 +48,6 @@ impl Refusal {
             Refusal::OutputLength => 4,
             Refusal::Order => 5,
             Refusal::NotWhole => 6,
-            Refusal::RecordEnds => 20,
-            Refusal::ScaleFlags => 21,
-            Refusal::PointNumbers => 22,
         }
     }
 
@@ -72,9 +63,6 @@ impl Refusal {
             Refusal::OutputLength => Placed::Nowhere,
             Refusal::Order => Placed::Nowhere,
             Refusal::NotWhole => Placed::Nowhere,
-            Refusal::RecordEnds => Placed::Nowhere,
-            Refusal::ScaleFlags => Placed::Nowhere,
-            Refusal::PointNumbers => Placed::Nowhere,
         }
     }
 }
