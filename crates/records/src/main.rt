@@ -7,16 +7,34 @@
 mod read;
 mod write;
 
+ghost use Rattle.std.specs.Prelude.{◌≤◌, length, IfOk};
+
 use std::io;
 use std::io::Read;
 
 // How many bytes of the table are read at most.
-const LENGTH: u64 = 65536;
+const LENGTH: usize = 65536;
 
 fn main(rt: HostRuntime) -> io::Result<()> {
-    let mut table = Vec::new(rt.alloc());
-    rt.reader().take(LENGTH).read_to_end(&mut table)?;
-    lines(&rt, &table)
+    let mut table = [0u8; LENGTH];
+    let n = read_full(&rt, &mut table)?;
+    lines(&rt, &table[..n])
+}
+
+// Reads until the room is full or the input ends: how many bytes there are.
+fn read_full(rt: &impl Input, text: &mut [u8]) -> io::Result<usize>
+    ensures { IfOk result (λ n. n ≤ length text.new) }
+{
+    let mut input = rt.reader();
+    let mut n = 0;
+    for _ in 0..u64::MAX {
+        let got = input.read(&mut text[n..])?;
+        if got == 0 {
+            return Ok(n);
+        }
+        n += got;
+    }
+    Ok(n)
 }
 
 // Every line of the table.
