@@ -1,15 +1,16 @@
 #!/usr/bin/env python3
 """Fails where a public function is called by no program that is run.
 
-Usage: tools/called.py        it runs `rt check --list-calls` in the programs and in the static library, which proves them where they are not proved yet
+Usage: tools/called.py        it runs `rt check --list-calls` in the programs, the boundary and its exports, which proves them where they are not proved yet
 
 - Every public function of the libraries is called by `cases`, `replay`, `comesback` or `records`.
 - The in-place swaps are called by functions of the boundary.
-- Every function of the boundary is called by the C program, include/test/migthumo_test.c.
+- Every function of the boundary is handed on by its exports, crates/migthumo_c.
+- Every export is called by the C program, include/test/migthumo_test.c.
 
 Which functions of other crates a program calls is what the compiler lists of its proved code. It lists the calls of all
 the program's own functions; that `main` reaches each of these is read off the sources, by name, and the script fails
-where it can't see it. For the boundary the exported functions stand in the place of `main`.
+where it can't see it. For the boundary its public functions stand in the place of `main`.
 """
 import glob
 import os
@@ -20,6 +21,7 @@ import sys
 PROGRAMS = ["cases", "replay", "comesback", "records"]
 IN_PLACE = ["matrix::Matrix4::swap_rows_mut", "matrix::Matrix4::swap_columns_mut", "matrix::Matrix4::swap_elements_mut"]
 BOUNDARY = "migthumo"
+EXPORTS = "migthumo_c"
 C_PROGRAM = "include/test/migthumo_test.c"
 
 
@@ -33,7 +35,7 @@ def libraries():
     """The library crates that crates.txt names, but for the boundary."""
     text = re.sub(r"#[^\n]*", "", open("crates.txt", encoding="utf-8").read())
     names = [name for name in re.findall(r"^\s*(\w+)\b[^:\n]*:", text, re.M) if os.path.exists(f"crates/{name}/src/lib.rt")]
-    return [name for name in names if name != BOUNDARY]
+    return [name for name in names if name not in (BOUNDARY, EXPORTS)]
 
 
 def public(crate):
@@ -124,8 +126,9 @@ def main():
     for name in functions:
         if name not in IN_PLACE and name not in by_programs:
             bad.append(f"{name} is called by neither {' nor '.join(PROGRAMS)}")
-    exported = public(BOUNDARY)
-    bad += [f"{f} of {BOUNDARY}, as far as the sources show" for f in unreached(BOUNDARY, [name.split("::")[-1] for name in exported])]
+    handed_on, exported, by_exports = public(BOUNDARY), public(EXPORTS), calls(EXPORTS)
+    bad += [f"{name} is not called by {EXPORTS}" for name in handed_on if name not in by_exports]
+    bad += [f"{f} of {BOUNDARY}, as far as the sources show" for f in unreached(BOUNDARY, [name.split("::")[-1] for name in handed_on])]
     by_boundary = calls(BOUNDARY)
     for name in IN_PLACE:
         if name not in functions or name not in by_boundary:

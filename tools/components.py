@@ -10,7 +10,7 @@ Usage: tools/components.py made [--seed N] [--count N] LIBRARY.a
            has the library read every component record of TrueType fonts, files or whole folders, and compares it with
            what is worked out here, and with fontTools where that can be imported
 
-The library is an archive such as crates/migthumo/out/libmigthumo.a, linked by cc with tools/components.c, which makes the
+The library is an archive such as target/staticlib/libmigthumo.a, linked by cc with tools/components.c, which makes the
 calls: each slice stands directly before or after a page that can't be read. `made` fails where there is a difference,
 and where a kind of call was not met; `fonts` where there is a difference, and where there was no record.
 """

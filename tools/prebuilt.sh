@@ -1,11 +1,11 @@
 #!/bin/sh
-# The static library that the repository has, and the one that `rt lib` in crates/migthumo built from the proved crates.
+# The static library that the repository has, and the one that tools/staticlib.sh built from the proved crates.
 #
 # Usage: tools/prebuilt.sh check     fails unless the two are the same byte for byte, and prebuilt/SHA256SUMS tells the
 #                                    library's hash, the tree hash of crates/ and the kit as they are
 #        tools/prebuilt.sh update    takes over the one that was built, and writes prebuilt/SHA256SUMS
 cd "$(dirname "$0")/.." || exit 1
-built=crates/migthumo/out/libmigthumo.a
+built=target/staticlib/libmigthumo.a
 target=x86_64-linux
 kept=prebuilt/$target/libmigthumo.a
 
@@ -40,7 +40,7 @@ has() {
 
 case $1 in
 check)
-    [ -f "$built" ] || fail "there is no $built: rt lib in crates/migthumo builds it"
+    [ -f "$built" ] || fail "there is no $built: tools/staticlib.sh builds it"
     cmp "$built" "$kept" || fail "$kept is not the library that the proved crates give; tools/prebuilt.sh update takes that over"
     (cd prebuilt && sha256sum --quiet --strict -c SHA256SUMS) || fail "prebuilt/SHA256SUMS has another hash"
     has "$(kit_line)"

@@ -3,11 +3,14 @@
 
 Usage: tools/unique.py [-q]
 
-The lines stand in proofs/Unique.antt of each library crate and of the static library, and the gate proves them. A line
-has the name of its function, behind its type's where it is a method, as `matrix2_order`; where a definition has that
-name, the line has `_lem` at its end, as `move_vectors_lem`. This script checks that none is missing. It fails where a public function has no line, or a line that speaks of another
-promise; where parameters are lent by `&mut` and the line leaves one of them out; where a public function has a
-`requires`; where it can't read a public function; and where it finds none at all.
+The lines stand in proofs/Unique.antt of each library crate, and the gate proves them. A line has the name of its
+function, behind its type's where it is a method, as `matrix2_order`; where a definition has that name, the line has
+`_lem` at its end, as `move_vectors_lem`. This script checks that none is missing. It fails where a public function has
+no line, or a line that speaks of another promise; where parameters are lent by `&mut` and the line leaves one of them
+out; where a public function has a `requires`; where it can't read a public function; and where it finds none at all.
+
+The exports stand for themselves: a static library's crate NAME_c is held to the library NAME word for word. It fails
+unless both have the same public functions, by module, with the same parameters, answers and clauses.
 """
 import glob
 import os
@@ -39,9 +42,30 @@ def closing(text, at):
 
 
 def libraries():
-    """The library crates that crates.txt names."""
-    names = re.findall(r"^\s*(\w+)\b[^:\n]*:", re.sub(r"#[^\n]*", "", read("crates.txt")), re.M)
-    return [name for name in names if os.path.exists(f"crates/{name}/src/lib.rt")]
+    """The library crates that crates.txt names, and those of static libraries."""
+    lines = re.findall(r"^\s*(\w+)\b([^:\n]*):", re.sub(r"#[^\n]*", "", read("crates.txt")), re.M)
+    lines = [(name, "staticlib" in more) for name, more in lines if os.path.exists(f"crates/{name}/src/lib.rt")]
+    return [name for name, static in lines if not static], [name for name, static in lines if static]
+
+
+def promised(crate):
+    """Each exported function of a crate by its module and name, with its parameters, its answer and its clauses."""
+    found = {}
+    for path in sorted(glob.glob(f"crates/{crate}/src/*.rt")):
+        text = re.sub(r"//[^\n]*", "", read(path))
+        for m in re.finditer(r"\bpub extern \"C\" fn (\w+)(\(.*?)\n\{\n", text, re.S):
+            found[os.path.basename(path), m.group(1)] = re.sub(r",(?=\s*\))", "", m.group(2)).split()
+    return found
+
+
+def unlike(exports):
+    """What the exports promise otherwise than the library that they hand on to."""
+    of = exports.removesuffix("_c")
+    ours, theirs = promised(exports), promised(of)
+    if of == exports or not ours:
+        return [f"crates/{exports}: no exports of a library can be read"]
+    bad = [f"crates/{exports}: {name} in {path} is not what {of} has there" for path, name in sorted(ours) if ours[path, name] != theirs.get((path, name))]
+    return bad + [f"crates/{exports}: {name} of {of}'s {path} is not handed on" for path, name in sorted(theirs.keys() - ours.keys())]
 
 
 def parameters(text):
@@ -117,8 +141,9 @@ def wanted(crate, place, taken):
 
 
 def main():
-    bad, total = [], 0
-    for crate in libraries():
+    of_libraries, of_exports = libraries()
+    bad, total = [fault for crate in of_exports for fault in unlike(crate)], 0
+    for crate in of_libraries:
         said, known = lines(crate), set()
         for path, place, line, taken, requires in functions(crate):
             total += 1

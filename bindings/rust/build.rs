@@ -78,8 +78,8 @@ fn advice(named: bool) -> String {
         false => "bring prebuilt/ back as it was committed".to_owned(),
     };
     format!(
-        "take the crate and the library from one checkout of Migthumo: {other}, or, with the Rattle kit, run `rt lib` \
-         in its crates/migthumo and set {VARIABLE} to its crates/migthumo/out"
+        "take the crate and the library from one checkout of Migthumo: {other}, or, with the Rattle kit, run its \
+         `tools/staticlib.sh` and set {VARIABLE} to its target/staticlib"
     )
 }
 

@@ -1,12 +1,11 @@
 /*
  * Calls every function of migthumo.h and compares what it answers and what it leaves. From the root of the repository:
  *
- *     (cd crates/migthumo && rt lib)
- *     mkdir -p target
- *     cc -Wall -Wextra -std=c99 -Iinclude include/test/migthumo_test.c crates/migthumo/out/libmigthumo.a -o target/c_test
+ *     tools/staticlib.sh
+ *     cc -Wall -Wextra -std=c99 -Iinclude include/test/migthumo_test.c target/staticlib/libmigthumo.a -o target/c_test
  *     target/c_test
  *
- * With no Rattle kit leave out the first line, and name prebuilt/x86_64-linux/libmigthumo.a in the third. It is C++11
+ * With no Rattle kit leave out the first line, and name prebuilt/x86_64-linux/libmigthumo.a in the second. It is C++11
  * too (c++ -x c++ -std=c++11). It reads include/test/places.txt, or the file that its argument names, and
  * include/test/records.txt, or the file that a second argument names. Its last line counts the checks; it exits with 1
  * where one of them failed.

@@ -144,7 +144,7 @@ fn a_folder_without_a_library() {
     let folder = room("without");
     let said = said("without_run", &[("MIGTHUMO_LIB_DIR", &folder)]);
     let path = folder.join("libmigthumo.a");
-    assert_says(&said, "cargo::error=", &[path.to_str().unwrap(), "unset MIGTHUMO_LIB_DIR", "`rt lib`"]);
+    assert_says(&said, "cargo::error=", &[path.to_str().unwrap(), "unset MIGTHUMO_LIB_DIR", "tools/staticlib.sh"]);
 }
 
 #[test]
@@ -163,7 +163,7 @@ fn another_version() {
         let folder = of_version("other", version);
         let said = said("other_run", &[("MIGTHUMO_LIB_DIR", &folder)]);
         let found = format!("has version {version}, and this crate is written for version 2");
-        assert_says(&said, "cargo::error=", &[&found, folder.to_str().unwrap(), "one checkout", "`rt lib`"]);
+        assert_says(&said, "cargo::error=", &[&found, folder.to_str().unwrap(), "one checkout", "tools/staticlib.sh"]);
     }
 }
 
