@@ -7,7 +7,8 @@ The lines stand in proofs/Unique.antt of each library crate, and the gate proves
 function, behind its type's where it is a method, as `matrix2_order`; where a definition has that name, the line has
 `_lem` at its end, as `move_vectors_lem`. This script checks that none is missing. It fails where a public function has
 no line, or a line that speaks of another promise; where parameters are lent by `&mut` and the line leaves one of them
-out; where a public function has a `requires`; where it can't read a public function; and where it finds none at all.
+out; where a public function has a `requires`; where it can't read a public function; and where it finds none at all, or no
+export.
 
 The exports stand for themselves: a static library's crate NAME_c is held to the library NAME word for word. It fails
 unless both have the same public functions, by module, with the same parameters, answers and clauses.
@@ -143,6 +144,7 @@ def wanted(crate, place, taken):
 def main():
     of_libraries, of_exports = libraries()
     bad, total = [fault for crate in of_exports for fault in unlike(crate)], 0
+    exports = sum(len(promised(crate)) for crate in of_exports)
     for crate in of_libraries:
         said, known = lines(crate), set()
         for path, place, line, taken, requires in functions(crate):
@@ -162,8 +164,8 @@ def main():
         bad += [f"{crate}: the line {line} is of no public function" for line in said if line not in known]
     for line in bad:
         print("LOOSE:", line)
-    print(f"{total} public functions, {len(bad)} faults")
-    sys.exit(1 if bad or not total else 0)
+    print(f"{total} public functions, {exports} exports, {len(bad)} faults")
+    sys.exit(1 if bad or not total or not exports else 0)
 
 
 main()
