@@ -1,6 +1,6 @@
 -- Document 01, 'Rules of the arithmetic': a swap with equal numbers below the order changes nothing, and one with equal numbers not below it is refused, naming the first (document 02, No. 1).
 -- Both at once: the outcome is the matrix after the check of that one number. Assumes nothing.
-use mathlib.Core.Path.{◌≡◌, refl, ap, ap₂, ◌∙◌}
+use mathlib.Core.Path.{◌≡◌, refl, sym, ap, ap₂, ◌∙◌}
 use mathlib.Core.List.{List, [], ◌∷◌, map}
 use Prim.Native.Nat.{ℕ, zero, suc, ◌<◌}
 use native.Mathlib.Omega.{arith}
@@ -80,7 +80,7 @@ module _ {M : Type 0} (n : ℕ) (array : M → List (List Float)) (ofArray : Lis
   unfolding elements_below
   elements_equal c r =
       rw (twice_both (column_below n First c) (row_below n First r) (column_below n Second c) (row_below n Second r) (twice (cause.Column First) (cause.Column Second) n c.0) (twice (cause.Row First) (cause.Row Second) n r.0))
-      (following (after (column_below n First c) (row_below n First r)) _ _ (λ e. ap ofArray (own (both _ _ e)) ∙ back m))
+      (following (after (column_below n First c) (row_below n First r)) _ _ (λ e. ap ofArray (own (both _ _ (sym e))) ∙ back m))
     where
       own : (column_below n First c ≡ given tt) × (row_below n First r ≡ given tt) → swap_elements (array m) c.0 r.0 c.0 r.0 ≡ array m
       own e =

@@ -1,7 +1,6 @@
-pub mod Answers
 pub mod Arrays
 pub mod Equal
-pub mod Kept
 pub mod Ranges
 pub mod Singular
 pub mod Unique
+pub mod Kept

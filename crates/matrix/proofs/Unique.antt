@@ -1,8 +1,7 @@
 -- Any two outcomes that a promise allows are equal: each public function of this crate, over its own promise.
 -- Assumes nothing.
-use Rattle.vector.proofs.Answers.{vector2_one, vector3_one, vector4_one}
+use Rattle.vector.proofs.Answers.{outcome_one}
 use Rattle.vector.proofs.Decided.{Decided, DecidedLent, value, meaning, meaning_lent}
-use Rattle.matrix.proofs.Answers.{matrix2_one, matrix3_one, matrix4_one, swapped_one}
 use Rattle.matrix.proofs.records.Matrix2
 use Rattle.matrix.proofs.records.Matrix3
 use Rattle.matrix.proofs.records.Matrix4
@@ -123,7 +122,7 @@ matrix4_from_matrix3 = value
 -- ---- places.rt
 
 pub matrix2_row : Decided Matrix2.row.Reads.Learnt
-matrix2_row = meaning vector2_one
+matrix2_row = meaning outcome_one
 
 pub matrix2_diagonal : Decided Matrix2.diagonal.Reads.Learnt
 matrix2_diagonal = value
@@ -132,16 +131,16 @@ pub matrix2_transpose : Decided Matrix2.transpose.Reads.Learnt
 matrix2_transpose = value
 
 pub matrix2_swap_rows : Decided Matrix2.swap_rows.Reads.Learnt
-matrix2_swap_rows = meaning matrix2_one
+matrix2_swap_rows = meaning outcome_one
 
 pub matrix2_swap_columns : Decided Matrix2.swap_columns.Reads.Learnt
-matrix2_swap_columns = meaning matrix2_one
+matrix2_swap_columns = meaning outcome_one
 
 pub matrix2_swap_elements : Decided Matrix2.swap_elements.Reads.Learnt
-matrix2_swap_elements = meaning matrix2_one
+matrix2_swap_elements = meaning outcome_one
 
 pub matrix3_row : Decided Matrix3.row.Reads.Learnt
-matrix3_row = meaning vector3_one
+matrix3_row = meaning outcome_one
 
 pub matrix3_diagonal : Decided Matrix3.diagonal.Reads.Learnt
 matrix3_diagonal = value
@@ -150,16 +149,16 @@ pub matrix3_transpose : Decided Matrix3.transpose.Reads.Learnt
 matrix3_transpose = value
 
 pub matrix3_swap_rows : Decided Matrix3.swap_rows.Reads.Learnt
-matrix3_swap_rows = meaning matrix3_one
+matrix3_swap_rows = meaning outcome_one
 
 pub matrix3_swap_columns : Decided Matrix3.swap_columns.Reads.Learnt
-matrix3_swap_columns = meaning matrix3_one
+matrix3_swap_columns = meaning outcome_one
 
 pub matrix3_swap_elements : Decided Matrix3.swap_elements.Reads.Learnt
-matrix3_swap_elements = meaning matrix3_one
+matrix3_swap_elements = meaning outcome_one
 
 pub matrix4_row : Decided Matrix4.row.Reads.Learnt
-matrix4_row = meaning vector4_one
+matrix4_row = meaning outcome_one
 
 pub matrix4_diagonal : Decided Matrix4.diagonal.Reads.Learnt
 matrix4_diagonal = value
@@ -168,24 +167,24 @@ pub matrix4_transpose : Decided Matrix4.transpose.Reads.Learnt
 matrix4_transpose = value
 
 pub matrix4_swap_rows : Decided Matrix4.swap_rows.Reads.Learnt
-matrix4_swap_rows = meaning matrix4_one
+matrix4_swap_rows = meaning outcome_one
 
 pub matrix4_swap_columns : Decided Matrix4.swap_columns.Reads.Learnt
-matrix4_swap_columns = meaning matrix4_one
+matrix4_swap_columns = meaning outcome_one
 
 pub matrix4_swap_elements : Decided Matrix4.swap_elements.Reads.Learnt
-matrix4_swap_elements = meaning matrix4_one
+matrix4_swap_elements = meaning outcome_one
 
 -- ---- in_place.rt
 
 pub matrix4_swap_rows_mut : DecidedLent Matrix4.swap_rows_mut.Reads.Learnt (λ κ s. s.0.now)
-matrix4_swap_rows_mut = meaning_lent swapped_one
+matrix4_swap_rows_mut = meaning_lent outcome_one
 
 pub matrix4_swap_columns_mut : DecidedLent Matrix4.swap_columns_mut.Reads.Learnt (λ κ s. s.0.now)
-matrix4_swap_columns_mut = meaning_lent swapped_one
+matrix4_swap_columns_mut = meaning_lent outcome_one
 
 pub matrix4_swap_elements_mut : DecidedLent Matrix4.swap_elements_mut.Reads.Learnt (λ κ s. s.0.now)
-matrix4_swap_elements_mut = meaning_lent swapped_one
+matrix4_swap_elements_mut = meaning_lent outcome_one
 
 -- ---- arithmetic.rt
 
@@ -276,19 +275,19 @@ pub matrix2_determinant : Decided Matrix2.determinant.Reads.Learnt
 matrix2_determinant = value
 
 pub matrix2_invert : Decided Matrix2.invert.Reads.Learnt
-matrix2_invert = meaning matrix2_one
+matrix2_invert = meaning outcome_one
 
 pub matrix3_determinant : Decided Matrix3.determinant.Reads.Learnt
 matrix3_determinant = value
 
 pub matrix3_invert : Decided Matrix3.invert.Reads.Learnt
-matrix3_invert = meaning matrix3_one
+matrix3_invert = meaning outcome_one
 
 pub matrix4_determinant : Decided Matrix4.determinant.Reads.Learnt
 matrix4_determinant = value
 
 pub matrix4_invert : Decided Matrix4.invert.Reads.Learnt
-matrix4_invert = meaning matrix4_one
+matrix4_invert = meaning outcome_one
 
 -- ---- rotations.rt
 

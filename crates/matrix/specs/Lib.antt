@@ -1,6 +1,5 @@
 pub mod Records
 pub mod Places
-pub mod InPlace
 pub mod Arithmetic
 pub mod Inverse
 pub mod Rotations

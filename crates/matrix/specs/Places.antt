@@ -14,18 +14,11 @@ use Rattle.vector.specs.declared.Vector4.{Vector4}
 use Rattle.matrix.specs.Records.{order2, order3, order4, new2, new3, new4, column, array2, array3, array4, of_array2, of_array3, of_array4}
 use Rattle.matrix.specs.declared.places.Column.{Column}
 use Rattle.matrix.specs.declared.places.Row.{Row}
-use Rattle.matrix.specs.declared.places.Checked.{Checked}
-use Rattle.matrix.specs.declared.places.Checked.TheVariants.{Within, Outside}
 use Rattle.matrix.specs.declared.records.Matrix2.{Matrix2}
 use Rattle.matrix.specs.declared.records.Matrix3.{Matrix3}
 use Rattle.matrix.specs.declared.records.Matrix4.{Matrix4}
 
 -- ---- the range tests, at order n: refusal 11 or 12 with its place, or nothing found
-
--- what a range test answers
-abbrev pub checked_outcome : Checked → Outcome Unit
-checked_outcome Within = given tt
-checked_outcome (Outside cause) = refused_for cause
 
 -- the row number, the first or the second (a lone one is the first), is below the order: else 12
 abbrev pub row_below : ℕ → Place → Row → Outcome Unit

@@ -2,7 +2,6 @@
 -- Every number stands where the document and the text put it; nothing is computed here. A comment holds for the orders below it. Assumes nothing.
 use Rattle.std.specs.Prelude.{ℕ, List, [], ◌∷◌, get_or, Float}
 use Rattle.vector.specs.Arithmetic.{float0, float1}
-use Rattle.vector.specs.Refusals.{Outcome, given, refused_for}
 use Rattle.vector.specs.Vectors.{vector2, vector3, vector4, entries2, entries3, entries4, of_entries2, of_entries3, of_entries4}
 use Rattle.vector.specs.declared.Vector2.{Vector2}
 use Rattle.vector.specs.declared.Vector3.{Vector3}
@@ -10,12 +9,6 @@ use Rattle.vector.specs.declared.Vector4.{Vector4}
 use Rattle.matrix.specs.declared.records.Matrix2.{Matrix2}
 use Rattle.matrix.specs.declared.records.Matrix3.{Matrix3}
 use Rattle.matrix.specs.declared.records.Matrix4.{Matrix4}
-use Rattle.matrix.specs.declared.records.Matrix2Answer.{Matrix2Answer}
-use Rattle.matrix.specs.declared.records.Matrix3Answer.{Matrix3Answer}
-use Rattle.matrix.specs.declared.records.Matrix4Answer.{Matrix4Answer}
-use Rattle.matrix.specs.declared.records.Matrix2Answer.TheVariants as answer2
-use Rattle.matrix.specs.declared.records.Matrix3Answer.TheVariants as answer3
-use Rattle.matrix.specs.declared.records.Matrix4Answer.TheVariants as answer4
 
 -- ---- the records
 
@@ -49,19 +42,6 @@ new3 a b c d e f g h i = matrix3 (vector3 a b c) (vector3 d e f) (vector3 g h i)
 abbrev pub new4 : Float → Float → Float → Float → Float → Float → Float → Float → Float → Float → Float → Float → Float → Float → Float → Float → Matrix4
 new4 a b c d e f g h i j k l m n o p =
     matrix4 (vector4 a b c d) (vector4 e f g h) (vector4 i j k l) (vector4 m n o p)
-
--- what an answer that gives a matrix means
-abbrev pub matrix2_outcome : Matrix2Answer → Outcome Matrix2
-matrix2_outcome (answer2.Given m) = given m
-matrix2_outcome (answer2.Refused cause) = refused_for cause
-
-abbrev pub matrix3_outcome : Matrix3Answer → Outcome Matrix3
-matrix3_outcome (answer3.Given m) = given m
-matrix3_outcome (answer3.Refused cause) = refused_for cause
-
-abbrev pub matrix4_outcome : Matrix4Answer → Outcome Matrix4
-matrix4_outcome (answer4.Given m) = given m
-matrix4_outcome (answer4.Refused cause) = refused_for cause
 
 -- ---- arrays
 

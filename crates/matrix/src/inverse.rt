@@ -2,13 +2,13 @@
 ghost use Rattle.std.specs.Prelude.{◌≡◌, ◌<◌};
 ghost use Rattle.vector.specs.Arithmetic.{◌⊕◌, ◌⊖◌, ◌⊗◌};
 ghost use Rattle.vector.specs.Vectors.{entries4, of_entries3, without};
-ghost use Rattle.matrix.specs.Records.{matrix2_outcome, matrix3_outcome, matrix4_outcome};
+ghost use Rattle.vector.specs.Refusals.{outcome};
 ghost use Rattle.matrix.specs.Inverse.{det2, det3, det4, det_sub_proc};
 ghost use Rattle.matrix.specs.Inverse.{invert2, invert3, invert4};
 ghost use Rattle.matrix.specs.Inverse.{without_place, sign, cofactor, inverse_column};
 
-use crate::records::{Matrix2, Matrix2Answer, Matrix3, Matrix3Answer, Matrix4, Matrix4Answer};
-use vector::{Refusal, Vector3, Vector3Answer, Vector4};
+use crate::records::{Matrix2, Matrix3, Matrix4};
+use vector::{Refusal, Vector3, Vector4};
 
 impl Matrix2 {
     // The determinant.
@@ -19,14 +19,14 @@ impl Matrix2 {
     }
 
     // The inverse, or refusal 2 where the determinant compares equal to zero.
-    pub fn invert(self) -> Matrix2Answer
-        ensures { matrix2_outcome result ≡ invert2 self }
+    pub fn invert(self) -> Result<Matrix2, Refusal>
+        ensures { outcome result ≡ invert2 self }
     {
         let det = self.determinant();
         if det == 0.0 {
-            return Matrix2Answer::Refused(Refusal::Singular);
+            return Err(Refusal::Singular);
         }
-        Matrix2Answer::Given(Matrix2::new(
+        Ok(Matrix2::new(
             self.y.y / det,
             -self.x.y / det,
             -self.y.x / det,
@@ -46,19 +46,19 @@ impl Matrix3 {
     }
 
     // The inverse, or refusal 2 where the determinant compares equal to zero.
-    pub fn invert(self) -> Matrix3Answer
-        ensures { matrix3_outcome result ≡ invert3 self }
+    pub fn invert(self) -> Result<Matrix3, Refusal>
+        ensures { outcome result ≡ invert3 self }
     {
         let det = self.determinant();
         if det == 0.0 {
-            return Matrix3Answer::Refused(Refusal::Singular);
+            return Err(Refusal::Singular);
         }
         let rows = Matrix3::from_cols(
             self.y.cross(self.z).div_scalar(det),
             self.z.cross(self.x).div_scalar(det),
             self.x.cross(self.y).div_scalar(det),
         );
-        Matrix3Answer::Given(rows.transpose())
+        Ok(rows.transpose())
     }
 }
 
@@ -73,16 +73,16 @@ impl Matrix4 {
     }
 
     // The inverse, or refusal 2 where the determinant compares equal to zero.
-    pub fn invert(self) -> Matrix4Answer
-        ensures { matrix4_outcome result ≡ invert4 self }
+    pub fn invert(self) -> Result<Matrix4, Refusal>
+        ensures { outcome result ≡ invert4 self }
     {
         let det = self.determinant();
         if det == 0.0 {
-            return Matrix4Answer::Refused(Refusal::Singular);
+            return Err(Refusal::Singular);
         }
         let inv_det = 1.0 / det;
         let t = self.transpose();
-        Matrix4Answer::Given(Matrix4::from_cols(
+        Ok(Matrix4::from_cols(
             inverse_column(t, inv_det, 0),
             inverse_column(t, inv_det, 1),
             inverse_column(t, inv_det, 2),
@@ -130,10 +130,7 @@ fn kept(v: Vector4, n: usize) -> Vector3
     requires { n < 4 }
     ensures { result ≡ of_entries3 (without n (entries4 v)) }
 {
-    match v.truncate_n(n) {
-        Vector3Answer::Given(u) => u,
-        Vector3Answer::Refused(_) => Vector3::new(v.x, v.y, v.z),
-    }
+    v.truncate_n(n).unwrap()
 }
 
 // -1 where i + j is odd, and 1 elsewhere.

@@ -9,6 +9,5 @@ pub mod places;
 pub mod records;
 pub mod rotations;
 
-pub use in_place::Swapped;
 pub use places::{Column, Row};
-pub use records::{Matrix2, Matrix2Answer, Matrix3, Matrix3Answer, Matrix4, Matrix4Answer};
+pub use records::{Matrix2, Matrix3, Matrix4};

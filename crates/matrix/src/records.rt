@@ -10,11 +10,11 @@ ghost use Rattle.matrix.specs.Records.{from_translation3, from_translation4};
 ghost use Rattle.matrix.specs.Records.{from_nonuniform_scale3, from_nonuniform_scale4};
 ghost use Rattle.matrix.specs.Records.{embed23, embed24, embed34};
 
-use vector::{Refusal, Vector2, Vector3, Vector4};
+use vector::{Vector2, Vector3, Vector4};
 
 // A matrix of order 2, as its columns.
 #[repr(C)]
-#[derive(Clone, Copy)]
+#[derive(Clone, Copy, Debug, PartialEq)]
 pub struct Matrix2 {
     // Column 0.
     pub x: Vector2,
@@ -24,7 +24,7 @@ pub struct Matrix2 {
 
 // A matrix of order 3, as its columns.
 #[repr(C)]
-#[derive(Clone, Copy)]
+#[derive(Clone, Copy, Debug, PartialEq)]
 pub struct Matrix3 {
     // Column 0.
     pub x: Vector3,
@@ -36,7 +36,7 @@ pub struct Matrix3 {
 
 // A matrix of order 4, as its columns.
 #[repr(C)]
-#[derive(Clone, Copy)]
+#[derive(Clone, Copy, Debug, PartialEq)]
 pub struct Matrix4 {
     // Column 0.
     pub x: Vector4,
@@ -46,27 +46,6 @@ pub struct Matrix4 {
     pub z: Vector4,
     // Column 3.
     pub w: Vector4,
-}
-
-// What an operation answers that gives a matrix of order 2 or refuses.
-#[derive(Clone, Copy)]
-pub enum Matrix2Answer {
-    Given(Matrix2),
-    Refused(Refusal),
-}
-
-// What an operation answers that gives a matrix of order 3 or refuses.
-#[derive(Clone, Copy)]
-pub enum Matrix3Answer {
-    Given(Matrix3),
-    Refused(Refusal),
-}
-
-// What an operation answers that gives a matrix of order 4 or refuses.
-#[derive(Clone, Copy)]
-pub enum Matrix4Answer {
-    Given(Matrix4),
-    Refused(Refusal),
 }
 
 impl Matrix2 {

@@ -1,6 +1,6 @@
 -- Any two outcomes that a promise allows are equal: each public function of this crate, over its own promise.
 -- Assumes nothing.
-use Rattle.vector.proofs.Answers.{vector3_one}
+use Rattle.vector.proofs.Answers.{outcome_one}
 use Rattle.vector.proofs.Decided.{Decided, value, meaning}
 use Rattle.vector.proofs.Vector2
 use Rattle.vector.proofs.Vector3
@@ -59,7 +59,7 @@ pub vector4_dot : Decided Vector4.dot.Reads.Learnt
 vector4_dot = value
 
 pub vector4_truncate_n : Decided Vector4.truncate_n.Reads.Learnt
-vector4_truncate_n = meaning vector3_one
+vector4_truncate_n = meaning outcome_one
 
 pub refusal_place : Decided Refusal.place.Reads.Learnt
 refusal_place = value

@@ -1,20 +1,9 @@
 -- Document 01, 'The numbers a refusal carries', and document 02, No. 1, 'Say column or row': an outcome is the values given, or what the refusal means.
--- What each kind of answer of this crate means as an outcome. Assumes nothing.
-use Rattle.std.specs.Prelude.{ℕ, cond, ltb}
+-- What an answer means as an outcome, here and in the crates above. Assumes nothing.
+use Rattle.std.specs.Prelude.{ℕ, Option, Some, None, Result, Ok, Err, cond, ltb}
 use Rattle.vector.specs.declared.refusal.Place.{Place}
-use Rattle.vector.specs.declared.refusal.Placed.{Placed}
-use Rattle.vector.specs.declared.refusal.Placed.TheVariants.{At, Nowhere}
 use Rattle.vector.specs.declared.refusal.Refusal.{Refusal}
 use Rattle.vector.specs.declared.refusal.Refusal.TheVariants.{Column, Row, Singular, InputLength, OutputLength, Order, NotWhole}
-use Rattle.vector.specs.declared.Vector2.{Vector2}
-use Rattle.vector.specs.declared.Vector3.{Vector3}
-use Rattle.vector.specs.declared.Vector4.{Vector4}
-use Rattle.vector.specs.declared.Vector2Answer.{Vector2Answer}
-use Rattle.vector.specs.declared.Vector3Answer.{Vector3Answer}
-use Rattle.vector.specs.declared.Vector4Answer.{Vector4Answer}
-use Rattle.vector.specs.declared.Vector2Answer.TheVariants as answer2
-use Rattle.vector.specs.declared.Vector3Answer.TheVariants as answer3
-use Rattle.vector.specs.declared.Vector4Answer.TheVariants as answer4
 
 -- what a refusal means: its number and no more, or its number with the place at fault, the first or the second
 pub data Meant : Type 0 where
@@ -42,9 +31,9 @@ number_of (bare n) = n
 number_of (placed n place) = n
 
 -- the place of a refusal, or none
-abbrev pub place_of : Meant → Placed
-place_of (bare n) = Nowhere
-place_of (placed n place) = At place
+abbrev pub place_of : Meant → Option Place
+place_of (bare n) = None
+place_of (placed n place) = Some place
 
 -- refused for this cause
 abbrev pub refused_for : {A : Type 0} → Refusal → Outcome A
@@ -73,17 +62,7 @@ leaves before (refused why) = before
 unfoldable pub below_limit : (cause : Refusal) (limit n : ℕ) → Outcome Unit
 below_limit cause limit n = cond (ltb n limit) (given tt) (refused_for cause)
 
--- what an answer of two numbers means (a row of order 2)
-abbrev pub vector2_outcome : Vector2Answer → Outcome Vector2
-vector2_outcome (answer2.Given v) = given v
-vector2_outcome (answer2.Refused cause) = refused_for cause
-
--- what an answer of three numbers means (a dropped element, a row of order 3)
-abbrev pub vector3_outcome : Vector3Answer → Outcome Vector3
-vector3_outcome (answer3.Given v) = given v
-vector3_outcome (answer3.Refused cause) = refused_for cause
-
--- what an answer of four numbers means (a row of order 4)
-abbrev pub vector4_outcome : Vector4Answer → Outcome Vector4
-vector4_outcome (answer4.Given v) = given v
-vector4_outcome (answer4.Refused cause) = refused_for cause
+-- what an answer means, whatever it gives: the value of an Ok, or what the cause of an Err means
+abbrev pub outcome : {A : Type 0} → Result A Refusal → Outcome A
+outcome (Ok a) = given a
+outcome (Err cause) = refused_for cause

@@ -9,13 +9,13 @@ ghost use Rattle.vector.specs.Vectors.{vector2, vector3, vector4};
 ghost use Rattle.vector.specs.Vectors.{add2, add3, add4, sub2, sub3, sub4};
 ghost use Rattle.vector.specs.Vectors.{scalar_mul2, scalar_mul3, scalar_mul4, div_scalar3};
 ghost use Rattle.vector.specs.Vectors.{dot2, dot3, dot4, cross3, truncate_n4};
-ghost use Rattle.vector.specs.Refusals.{vector3_outcome};
+ghost use Rattle.vector.specs.Refusals.{outcome};
 
-pub use refusal::{Place, Placed, Refusal};
+pub use refusal::{Place, Refusal};
 
 // A vector of two numbers.
 #[repr(C)]
-#[derive(Clone, Copy)]
+#[derive(Clone, Copy, Debug, PartialEq)]
 pub struct Vector2 {
     pub x: f64,
     pub y: f64,
@@ -23,7 +23,7 @@ pub struct Vector2 {
 
 // A vector of three numbers.
 #[repr(C)]
-#[derive(Clone, Copy)]
+#[derive(Clone, Copy, Debug, PartialEq)]
 pub struct Vector3 {
     pub x: f64,
     pub y: f64,
@@ -32,33 +32,12 @@ pub struct Vector3 {
 
 // A vector of four numbers.
 #[repr(C)]
-#[derive(Clone, Copy)]
+#[derive(Clone, Copy, Debug, PartialEq)]
 pub struct Vector4 {
     pub x: f64,
     pub y: f64,
     pub z: f64,
     pub w: f64,
-}
-
-// What an operation answers that gives two numbers or refuses.
-#[derive(Clone, Copy)]
-pub enum Vector2Answer {
-    Given(Vector2),
-    Refused(Refusal),
-}
-
-// What an operation answers that gives three numbers or refuses.
-#[derive(Clone, Copy)]
-pub enum Vector3Answer {
-    Given(Vector3),
-    Refused(Refusal),
-}
-
-// What an operation answers that gives four numbers or refuses.
-#[derive(Clone, Copy)]
-pub enum Vector4Answer {
-    Given(Vector4),
-    Refused(Refusal),
 }
 
 impl Vector2 {
@@ -205,15 +184,15 @@ impl Vector4 {
     }
 
     // The other three entries in their order, without entry n, or refusal 12, first.
-    pub fn truncate_n(self, n: usize) -> Vector3Answer
-        ensures { vector3_outcome result ≡ truncate_n4 self n }
+    pub fn truncate_n(self, n: usize) -> Result<Vector3, Refusal>
+        ensures { outcome result ≡ truncate_n4 self n }
     {
         match n {
-            0 => Vector3Answer::Given(Vector3::new(self.y, self.z, self.w)),
-            1 => Vector3Answer::Given(Vector3::new(self.x, self.z, self.w)),
-            2 => Vector3Answer::Given(Vector3::new(self.x, self.y, self.w)),
-            3 => Vector3Answer::Given(Vector3::new(self.x, self.y, self.z)),
-            _ => Vector3Answer::Refused(Refusal::Row(Place::First)),
+            0 => Ok(Vector3::new(self.y, self.z, self.w)),
+            1 => Ok(Vector3::new(self.x, self.z, self.w)),
+            2 => Ok(Vector3::new(self.x, self.y, self.w)),
+            3 => Ok(Vector3::new(self.x, self.y, self.z)),
+            _ => Err(Refusal::Row(Place::First)),
         }
     }
 }

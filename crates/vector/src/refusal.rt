@@ -3,21 +3,14 @@ ghost use Rattle.std.specs.Prelude.{◌≡◌};
 ghost use Rattle.vector.specs.Refusals.{means, number_of, place_of};
 
 // Which of the numbers handed in was at fault: the first of its kind, or the second.
-#[derive(Clone, Copy)]
+#[derive(Clone, Copy, Debug, PartialEq, Eq)]
 pub enum Place {
     First,
     Second,
 }
 
-// The place that goes with a cause, or that none does.
-#[derive(Clone, Copy)]
-pub enum Placed {
-    At(Place),
-    Nowhere,
-}
-
 // Why an answer gives no value.
-#[derive(Clone, Copy)]
+#[derive(Clone, Copy, Debug, PartialEq, Eq)]
 pub enum Refusal {
     // A column number is not below the order.
     Column(Place),
@@ -51,18 +44,13 @@ impl Refusal {
         }
     }
 
-    // The place that goes with this cause.
-    pub fn place(self) -> Placed
+    // The place that goes with this cause, or none.
+    pub fn place(self) -> Option<Place>
         ensures { result ≡ place_of (means self) }
     {
         match self {
-            Refusal::Column(place) => Placed::At(place),
-            Refusal::Row(place) => Placed::At(place),
-            Refusal::Singular => Placed::Nowhere,
-            Refusal::InputLength => Placed::Nowhere,
-            Refusal::OutputLength => Placed::Nowhere,
-            Refusal::Order => Placed::Nowhere,
-            Refusal::NotWhole => Placed::Nowhere,
+            Refusal::Column(place) | Refusal::Row(place) => Some(place),
+            _ => None,
         }
     }
 }

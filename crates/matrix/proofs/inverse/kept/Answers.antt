@@ -1,6 +1,6 @@
--- Below four `truncate_n` gives its vector and does not refuse. Assumes nothing.
-use Rattle.matrix.proofs.Kept.{never_refused}
+-- Below four `truncate_n` gives its vector, so the refusal does not come. Assumes nothing.
+use Rattle.matrix.proofs.Kept.{given_below}
 use Rattle.matrix.proofs.inverse.kept.Goals as goal
 
-pub returns-in-Refused : goal.returns-in-Refused
-returns-in-Refused c = absurd (never_refused _ _ _ _ c.requires c.truncate_n.ensures c.in-Refused.is)
+pub unwrap-requires : goal.unwrap-requires
+unwrap-requires c = given_below _ _ _ c.requires c.truncate_n.ensures

@@ -1,7 +1,0 @@
--- A test that found a cause is the refusal; one that found nothing bounds the numbers that the callee asks for. Assumes nothing.
-use Rattle.matrix.proofs.Ranges.{passed, columns_within}
-use Rattle.matrix.proofs.records.Matrix3.swap_columns.Goals as goal
-
-pub columns_swapped3-m-requires : goal.columns_swapped3-m-requires
-columns_swapped3-m-requires c =
-    columns_within 3 _ _ (passed _ _ c.check_columns.ensures c.in-Within.is)
