@@ -1,7 +1,9 @@
 -- Any two outcomes that a promise allows are equal: each public function of this crate, over its own promise.
 -- Assumes nothing.
+use Rattle.std.specs.Prelude.{Float}
+use Rattle.vector.specs.Arithmetic.{Computes, Computes₂}
 use Rattle.vector.proofs.Answers.{vector2_one, vector3_one, vector4_one}
-use Rattle.vector.proofs.Decided.{Decided, DecidedLent, value, meaning, meaning_lent}
+use Rattle.vector.proofs.Decided.{Decided, DecidedLent, DecidedWhere, value, computed, meaning, meaning_lent}
 use Rattle.matrix.proofs.Answers.{matrix2_one, matrix3_one, matrix4_one, swapped_one}
 use Rattle.matrix.proofs.arithmetic.Matrix2VectorSpace
 use Rattle.matrix.proofs.arithmetic.Matrix3VectorSpace
@@ -192,6 +194,12 @@ matrix4_swap_elements_mut = meaning_lent swapped_one
 
 -- ---- arithmetic.rt
 
+pub matrix2_map : (T : _) (L : _) (C : _) (F : _) (d1 d2 d3 : _) (K : _) (d4 : _) → DecidedWhere (λ κ a. (f : Float → Float) × Computes (λ x r. F.post a.1.0 (x, tt) r) f) (Matrix2VectorSpace.map.Reads.Learnt T L C F d1 d2 d3 K d4)
+matrix2_map T L C F d1 d2 d3 K d4 = computed
+
+pub matrix2_zip : (T : _) (L : _) (C : _) (F : _) (d1 d2 d3 : _) (K : _) (d4 : _) → DecidedWhere (λ κ a. (f : Float → Float → Float) × Computes₂ (λ x y r. F.post a.1.1.0 (x, (y, tt)) r) f) (Matrix2VectorSpace.zip.Reads.Learnt T L C F d1 d2 d3 K d4)
+matrix2_zip T L C F d1 d2 d3 K d4 = computed
+
 pub matrix2_add : Decided Matrix2VectorSpace.add.Reads.Learnt
 matrix2_add = value
 
@@ -219,6 +227,12 @@ matrix2_mul_scalar = value
 pub matrix2_div_scalar : Decided Matrix2VectorSpace.div_scalar.Reads.Learnt
 matrix2_div_scalar = value
 
+pub matrix3_map : (T : _) (L : _) (C : _) (F : _) (d1 d2 d3 : _) (K : _) (d4 : _) → DecidedWhere (λ κ a. (f : Float → Float) × Computes (λ x r. F.post a.1.0 (x, tt) r) f) (Matrix3VectorSpace.map.Reads.Learnt T L C F d1 d2 d3 K d4)
+matrix3_map T L C F d1 d2 d3 K d4 = computed
+
+pub matrix3_zip : (T : _) (L : _) (C : _) (F : _) (d1 d2 d3 : _) (K : _) (d4 : _) → DecidedWhere (λ κ a. (f : Float → Float → Float) × Computes₂ (λ x y r. F.post a.1.1.0 (x, (y, tt)) r) f) (Matrix3VectorSpace.zip.Reads.Learnt T L C F d1 d2 d3 K d4)
+matrix3_zip T L C F d1 d2 d3 K d4 = computed
+
 pub matrix3_add : Decided Matrix3VectorSpace.add.Reads.Learnt
 matrix3_add = value
 
@@ -245,6 +259,12 @@ matrix3_mul_scalar = value
 
 pub matrix3_div_scalar : Decided Matrix3VectorSpace.div_scalar.Reads.Learnt
 matrix3_div_scalar = value
+
+pub matrix4_map : (T : _) (L : _) (C : _) (F : _) (d1 d2 d3 : _) (K : _) (d4 : _) → DecidedWhere (λ κ a. (f : Float → Float) × Computes (λ x r. F.post a.1.0 (x, tt) r) f) (Matrix4VectorSpace.map.Reads.Learnt T L C F d1 d2 d3 K d4)
+matrix4_map T L C F d1 d2 d3 K d4 = computed
+
+pub matrix4_zip : (T : _) (L : _) (C : _) (F : _) (d1 d2 d3 : _) (K : _) (d4 : _) → DecidedWhere (λ κ a. (f : Float → Float → Float) × Computes₂ (λ x y r. F.post a.1.1.0 (x, (y, tt)) r) f) (Matrix4VectorSpace.zip.Reads.Learnt T L C F d1 d2 d3 K d4)
+matrix4_zip T L C F d1 d2 d3 K d4 = computed
 
 pub matrix4_add : Decided Matrix4VectorSpace.add.Reads.Learnt
 matrix4_add = value
