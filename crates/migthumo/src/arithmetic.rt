@@ -5,6 +5,7 @@ ghost use Rattle.migthumo.specs.Boundary.{product, add, subtract, scale, divide,
 
 use crate::{check, load, store};
 use matrix::{Matrix2Answer, Matrix3Answer, Matrix4Answer};
+use vector::VectorSpace;
 
 // The product a times b.
 #[unsafe(no_mangle)]

@@ -3,15 +3,16 @@
 #![tactic(auto)]
 
 pub mod refusal;
+pub mod space;
 
 ghost use Rattle.std.specs.Prelude.{◌≡◌};
 ghost use Rattle.vector.specs.Vectors.{vector2, vector3, vector4};
-ghost use Rattle.vector.specs.Vectors.{add2, add3, add4, sub2, sub3, sub4};
-ghost use Rattle.vector.specs.Vectors.{scalar_mul2, scalar_mul3, scalar_mul4, div_scalar3};
+ghost use Rattle.vector.specs.Vectors.{map2, map3, map4, zip2, zip3, zip4};
 ghost use Rattle.vector.specs.Vectors.{dot2, dot3, dot4, cross3, truncate_n4};
 ghost use Rattle.vector.specs.Refusals.{outcome};
 
 pub use refusal::{Place, Refusal};
+pub use space::VectorSpace;
 
 // A vector of two numbers.
 #[repr(C)]
@@ -48,32 +49,25 @@ impl Vector2 {
         Vector2 { x, y }
     }
 
-    // The sum, entry by entry.
-    pub fn add(self, other: Vector2) -> Vector2
-        ensures { result ≡ add2 self other }
-    {
-        Vector2::new(self.x + other.x, self.y + other.y)
-    }
-
-    // The difference, entry by entry.
-    pub fn sub(self, other: Vector2) -> Vector2
-        ensures { result ≡ sub2 self other }
-    {
-        Vector2::new(self.x - other.x, self.y - other.y)
-    }
-
-    // The scalar, on the left, times each entry.
-    pub fn scalar_mul(self, scalar: f64) -> Vector2
-        ensures { result ≡ scalar_mul2 scalar self }
-    {
-        Vector2::new(scalar * self.x, scalar * self.y)
-    }
-
     // The products entry by entry, summed.
     pub fn dot(self, other: Vector2) -> f64
         ensures { result ≡ dot2 self other }
     {
         self.x * other.x + self.y * other.y
+    }
+}
+
+impl VectorSpace for Vector2 {
+    ghost map = { map2 };
+
+    ghost zip = { zip2 };
+
+    fn map<F: Fn(f64) -> f64 + Copy>(self, f: F) -> Vector2 {
+        Vector2::new(f(self.x), f(self.y))
+    }
+
+    fn zip<F: Fn(f64, f64) -> f64 + Copy>(self, other: Vector2, f: F) -> Vector2 {
+        Vector2::new(f(self.x, other.x), f(self.y, other.y))
     }
 }
 
@@ -83,34 +77,6 @@ impl Vector3 {
         ensures { result ≡ vector3 x y z }
     {
         Vector3 { x, y, z }
-    }
-
-    // The sum, entry by entry.
-    pub fn add(self, other: Vector3) -> Vector3
-        ensures { result ≡ add3 self other }
-    {
-        Vector3::new(self.x + other.x, self.y + other.y, self.z + other.z)
-    }
-
-    // The difference, entry by entry.
-    pub fn sub(self, other: Vector3) -> Vector3
-        ensures { result ≡ sub3 self other }
-    {
-        Vector3::new(self.x - other.x, self.y - other.y, self.z - other.z)
-    }
-
-    // The scalar, on the left, times each entry.
-    pub fn scalar_mul(self, scalar: f64) -> Vector3
-        ensures { result ≡ scalar_mul3 scalar self }
-    {
-        Vector3::new(scalar * self.x, scalar * self.y, scalar * self.z)
-    }
-
-    // Each entry divided by the scalar.
-    pub fn div_scalar(self, scalar: f64) -> Vector3
-        ensures { result ≡ div_scalar3 self scalar }
-    {
-        Vector3::new(self.x / scalar, self.y / scalar, self.z / scalar)
     }
 
     // The products entry by entry, summed x + (y + z).
@@ -132,48 +98,26 @@ impl Vector3 {
     }
 }
 
+impl VectorSpace for Vector3 {
+    ghost map = { map3 };
+
+    ghost zip = { zip3 };
+
+    fn map<F: Fn(f64) -> f64 + Copy>(self, f: F) -> Vector3 {
+        Vector3::new(f(self.x), f(self.y), f(self.z))
+    }
+
+    fn zip<F: Fn(f64, f64) -> f64 + Copy>(self, other: Vector3, f: F) -> Vector3 {
+        Vector3::new(f(self.x, other.x), f(self.y, other.y), f(self.z, other.z))
+    }
+}
+
 impl Vector4 {
     // The vector of these numbers.
     pub fn new(x: f64, y: f64, z: f64, w: f64) -> Vector4
         ensures { result ≡ vector4 x y z w }
     {
         Vector4 { x, y, z, w }
-    }
-
-    // The sum, entry by entry.
-    pub fn add(self, other: Vector4) -> Vector4
-        ensures { result ≡ add4 self other }
-    {
-        Vector4::new(
-            self.x + other.x,
-            self.y + other.y,
-            self.z + other.z,
-            self.w + other.w,
-        )
-    }
-
-    // The difference, entry by entry.
-    pub fn sub(self, other: Vector4) -> Vector4
-        ensures { result ≡ sub4 self other }
-    {
-        Vector4::new(
-            self.x - other.x,
-            self.y - other.y,
-            self.z - other.z,
-            self.w - other.w,
-        )
-    }
-
-    // The scalar, on the left, times each entry.
-    pub fn scalar_mul(self, scalar: f64) -> Vector4
-        ensures { result ≡ scalar_mul4 scalar self }
-    {
-        Vector4::new(
-            scalar * self.x,
-            scalar * self.y,
-            scalar * self.z,
-            scalar * self.w,
-        )
     }
 
     // The products entry by entry, summed x + (y + (z + w)).
@@ -194,5 +138,24 @@ impl Vector4 {
             3 => Ok(Vector3::new(self.x, self.y, self.z)),
             _ => Err(Refusal::Row(Place::First)),
         }
+    }
+}
+
+impl VectorSpace for Vector4 {
+    ghost map = { map4 };
+
+    ghost zip = { zip4 };
+
+    fn map<F: Fn(f64) -> f64 + Copy>(self, f: F) -> Vector4 {
+        Vector4::new(f(self.x), f(self.y), f(self.z), f(self.w))
+    }
+
+    fn zip<F: Fn(f64, f64) -> f64 + Copy>(self, other: Vector4, f: F) -> Vector4 {
+        Vector4::new(
+            f(self.x, other.x),
+            f(self.y, other.y),
+            f(self.z, other.z),
+            f(self.w, other.w),
+        )
     }
 }
