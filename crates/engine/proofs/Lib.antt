@@ -6,7 +6,6 @@ pub mod Products
 pub mod Turns
 pub mod Minors
 pub mod Outcomes
-pub mod Meanings
 pub mod Bits
 pub mod Fractions
 pub mod Readings

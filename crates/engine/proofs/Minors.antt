@@ -1,6 +1,6 @@
 -- The minors: the numbers other than one, a matrix without a column and a row, the sign of a place, and how large a minor is.
 -- Assumes nothing.
-use Rattle.std.proofs.Common.{◌≡◌, ℕ, zero, suc, ◌+◌, ◌-◌, ◌*◌, ◌%◌, ◌^◌, ◌<◌, ◌≤◌, List, [], ◌∷◌, get_or, ℤ, pos, negsuc, ◌-ℤ◌, ◌*ℤ◌, neg_ℤ, nat_abs, sym, refl, ap, ◌∙◌, subst, ap₂, suc-le-suc, le_trans, lt_of_lt_of_le, le_of_suc-le-suc, not-suc-le-zero, mul-le-mul, arith, lit<, w64, SFits, to_z, of_z}
+use Rattle.std.proofs.Common.{◌≡◌, ℕ, zero, suc, ◌+◌, ◌-◌, ◌*◌, ◌%◌, ◌^◌, ◌<◌, ◌≤◌, List, [], get_or, ℤ, pos, negsuc, ◌-ℤ◌, ◌*ℤ◌, neg_ℤ, nat_abs, sym, refl, ap, ◌∙◌, subst, ap₂, suc-le-suc, le_trans, lt_of_lt_of_le, le_of_suc-le-suc, not-suc-le-zero, mul-le-mul, arith, lit<, w64, SFits, to_z, of_z}
 use lib.IntN.{neg_ℤ-neg_ℤ, +ℤ_idl}
 use Rattle.whole.specs.Matrix.{Matrix}
 use Rattle.whole.specs.Order.{parity, skip, exact_signed_sum}
@@ -11,7 +11,6 @@ use Rattle.whole.proofs.Expansion.{signed_sum_ext}
 use Rattle.whole.proofs.Bounds.{signed_sum_le}
 use Rattle.engine.specs.Whole.{wholes, Small}
 use Rattle.engine.specs.Engine.{cofactor_of}
-use Rattle.engine.proofs.Places.{below_three}
 use Rattle.engine.proofs.Signed.{small_fits, small_back}
 use Rattle.engine.proofs.Table.{few_rows, power_le}
 
@@ -38,15 +37,6 @@ element column k r s small is = small_back (get_or column k (pos 0)) (small k is
 -- an element of a column that was worked out
 pub place : (m : List (List ℤ)) (w : List ℤ) (k c d r s : ℕ) → get_or w s (pos 0) ≡ get_or (get_or m k []) (skip r s) (pos 0) → k ≡ skip c d → get_or w s (pos 0) ≡ wholes m (skip c d) (skip r s)
 place m w k c d r s kept is = kept ∙ ap (λ (i : ℕ). get_or (get_or m i []) (skip r s) (pos 0)) is
-
--- three elements by name
-pub three_elements : (f : ℕ → ℤ) (a b c d : ℤ) → a ≡ f 0 → b ≡ f 1 → c ≡ f 2 → (s : ℕ) → s < 3 → get_or (a ∷ b ∷ c ∷ d ∷ []) s (pos 0) ≡ f s
-three_elements f a b c d = below_three (λ s. get_or (a ∷ b ∷ c ∷ d ∷ []) s (pos 0) ≡ f s)
-
--- three columns by name
-pub three_columns : (f : ℕ → ℕ → ℤ) (a b c d : List ℤ) → ((s : ℕ) → s < 3 → get_or a s (pos 0) ≡ f 0 s) → ((s : ℕ) → s < 3 → get_or b s (pos 0) ≡ f 1 s) → ((s : ℕ) → s < 3 → get_or c s (pos 0) ≡ f 2 s)
-    → (e s : ℕ) → e < 3 → s < 3 → wholes (a ∷ b ∷ c ∷ d ∷ []) e s ≡ f e s
-three_columns f a b c d p q r e s h l = below_three (λ e. wholes (a ∷ b ∷ c ∷ d ∷ []) e s ≡ f e s) (p s l) (q s l) (r s l) e h
 
 -- ---- the minor
 

@@ -6,7 +6,7 @@ use lib.ListN.{get_or-map}
 use lib.Ieee.{Float, nan, eq, of_bits, of_int, to_signed}
 use Rattle.vector.specs.Arithmetic.{float0, float1}
 use Rattle.vector.specs.declared.refusal.Place.TheVariants.{First}
-use Rattle.vector.specs.Refusals.{Outcome, given, refused, Meant, refused_for, after, over}
+use Rattle.vector.specs.Refusals.{Outcome, given, refused, Meant, refused_for, after}
 use Rattle.vector.specs.declared.refusal.Refusal.TheVariants.{NotWhole}
 use Rattle.matrix.specs.Records.{array4, embed24, embed34}
 use Rattle.vector.proofs.Checks.{passes}
@@ -20,10 +20,7 @@ use Rattle.whole.specs.Matrix.{Matrix}
 use Rattle.whole.specs.Order.{exact_signed_sum}
 use Rattle.whole.proofs.Expansion.{signed_sum_ext, cofactor_ext as expansion_cofactor_ext}
 use Rattle.engine.specs.Whole.{whole_number, is_whole, Floats, whole_entries, numbers, floats2, floats3, floats4, wholes, Small}
-use Rattle.vector.specs.declared.refusal.Refusal.{Refusal}
-use Rattle.engine.specs.declared.answers.NumberAnswer.{NumberAnswer}
-use Rattle.engine.specs.declared.answers.NumberAnswer.TheVariants.{Given, Refused}
-use Rattle.engine.specs.Engine.{number_outcome, taken, is_one_bit, undoable_sum, cofactor_of, cofactor}
+use Rattle.engine.specs.Engine.{taken, cofactor_of, cofactor}
 use Rattle.engine.proofs.Places.{all_places_lem, below_two, below_three}
 use Rattle.engine.proofs.Taken.{taken_reached}
 
@@ -113,21 +110,6 @@ corner_sum n e d same = signed_sum_ext n (numbers e) (numbers d) (λ c r h l. ap
 -- an outcome with another check and another value
 pub after_same : {A : Type 0} (p q : Outcome Unit) (v w : A) → p ≡ q → v ≡ w → after p (given v) ≡ after q (given w)
 after_same p q v w h e = rw (h, e)
-
--- ---- the sum tested
-
--- a number that was given
-pub sum_given : (a : NumberAnswer) (z : ℤ) (b : Bool) → a ≡ Given z → b ≡ is_one_bit (nat_abs z) → given b ≡ over undoable_sum (number_outcome a)
-sum_given a z b is tested = ap given tested ∙ ap (λ (a : NumberAnswer). over undoable_sum (number_outcome a)) (sym is)
-
--- a cause that was given
-pub sum_refused : (a : NumberAnswer) (cause : Refusal) → a ≡ Refused cause → refused_for cause ≡ over undoable_sum (number_outcome a)
-sum_refused a cause is = ap (λ (a : NumberAnswer). over undoable_sum (number_outcome a)) (sym is)
-
--- the test goes after the check
-pub sum_tested : (check : Outcome Unit) (z : ℤ) → over undoable_sum (after check (given z)) ≡ after check (given (undoable_sum z))
-sum_tested (given u) z = refl
-sum_tested (refused why) z = refl
 
 -- ---- a place, then the check
 

@@ -10,20 +10,6 @@ use Rattle.matrix.specs.declared.places.Row.{Row}
 use Rattle.whole.specs.Matrix.{Matrix, times, IsMultiple}
 use Rattle.whole.specs.Order.{parity, skip, exact_signed_sum}
 use Rattle.engine.specs.Whole.{Floats, whole_entries, AllWhole, numbers}
-use Rattle.engine.specs.declared.answers.NumberAnswer.{NumberAnswer}
-use Rattle.engine.specs.declared.answers.NumberAnswer.TheVariants as number
-use Rattle.engine.specs.declared.answers.UndoableAnswer.{UndoableAnswer}
-use Rattle.engine.specs.declared.answers.UndoableAnswer.TheVariants as verdict
-
--- what an answer that gives a whole number means
-abbrev pub number_outcome : NumberAnswer → Outcome ℤ
-number_outcome (number.Given z) = given z
-number_outcome (number.Refused cause) = refused_for cause
-
--- what an answer that says yes or no means
-abbrev pub undoable_outcome : UndoableAnswer → Outcome Bool
-undoable_outcome (verdict.Given b) = given b
-undoable_outcome (verdict.Refused cause) = refused_for cause
 
 -- ---- what is answered, for entries up to a limit, which the code has at 1024
 

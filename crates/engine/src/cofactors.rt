@@ -2,53 +2,52 @@
 // They are given one by one, since an answer holds no array; the place is tested first.
 ghost use Rattle.std.specs.Prelude.{◌≡◌, ℕ, ◌<◌, ◌≤◌, pos, slice_index_or, unsigned_abs};
 ghost use Rattle.vector.specs.declared.refusal.Place.TheVariants.{First};
-ghost use Rattle.vector.specs.Refusals.{given, after};
+ghost use Rattle.vector.specs.Refusals.{outcome, given, after};
 ghost use Rattle.matrix.specs.Places.{column_below, row_below};
 ghost use Rattle.whole.specs.Order.{skip};
 ghost use Rattle.engine.specs.Whole.{floats2, floats3, floats4, numbers, wholes, Small};
-ghost use Rattle.engine.specs.Engine.{number_outcome, taken, cofactor_of, cofactor};
+ghost use Rattle.engine.specs.Engine.{taken, cofactor_of, cofactor};
 
-use crate::answers::NumberAnswer;
 use crate::{entries, sum};
 use matrix::{Column, Matrix2, Matrix3, Matrix4, Row};
 use vector::{Place, Refusal};
 
 // The cofactor of a place at order 2: refusal 11 or 12, first, for the place, then refusal 6.
-pub fn cofactor2(m: Matrix2, c: Column, r: Row) -> NumberAnswer
-    ensures { number_outcome result ≡ cofactor 1024 2 (floats2 m) c r }
+pub fn cofactor2(m: Matrix2, c: Column, r: Row) -> Result<i64, Refusal>
+    ensures { outcome result ≡ cofactor 1024 2 (floats2 m) c r }
 {
     cofactor_answer(Matrix4::from_matrix2(m), 2, c, r)
 }
 
 // The cofactor of a place at order 3: refusal 11 or 12, first, for the place, then refusal 6.
-pub fn cofactor3(m: Matrix3, c: Column, r: Row) -> NumberAnswer
-    ensures { number_outcome result ≡ cofactor 1024 3 (floats3 m) c r }
+pub fn cofactor3(m: Matrix3, c: Column, r: Row) -> Result<i64, Refusal>
+    ensures { outcome result ≡ cofactor 1024 3 (floats3 m) c r }
 {
     cofactor_answer(Matrix4::from_matrix3(m), 3, c, r)
 }
 
 // The cofactor of a place at order 4: refusal 11 or 12, first, for the place, then refusal 6.
-pub fn cofactor4(m: Matrix4, c: Column, r: Row) -> NumberAnswer
-    ensures { number_outcome result ≡ cofactor 1024 4 (floats4 m) c r }
+pub fn cofactor4(m: Matrix4, c: Column, r: Row) -> Result<i64, Refusal>
+    ensures { outcome result ≡ cofactor 1024 4 (floats4 m) c r }
 {
     cofactor_answer(m, 4, c, r)
 }
 
 // The cofactor of a place among the first n columns and rows.
-fn cofactor_answer(m: Matrix4, n: usize, c: Column, r: Row) -> NumberAnswer
+fn cofactor_answer(m: Matrix4, n: usize, c: Column, r: Row) -> Result<i64, Refusal>
     requires { (1 ≤ n) × (n ≤ 4) }
-    ensures { number_outcome result ≡ after (column_below n First c) (after (row_below n First r) (after (taken 1024 4 (floats4 m)) (given (cofactor_of n (numbers (floats4 m)) c.0 r.0)))) }
+    ensures { outcome result ≡ after (column_below n First c) (after (row_below n First r) (after (taken 1024 4 (floats4 m)) (given (cofactor_of n (numbers (floats4 m)) c.0 r.0)))) }
 {
     if n <= c.0 {
-        return NumberAnswer::Refused(Refusal::Column(Place::First));
+        return Err(Refusal::Column(Place::First));
     }
     if n <= r.0 {
-        return NumberAnswer::Refused(Refusal::Row(Place::First));
+        return Err(Refusal::Row(Place::First));
     }
     if entries::whole_entries(m) {
-        NumberAnswer::Given(signed_minor(entries::numbers(m), n, c.0, r.0))
+        Ok(signed_minor(entries::numbers(m), n, c.0, r.0))
     } else {
-        NumberAnswer::Refused(Refusal::NotWhole)
+        Err(Refusal::NotWhole)
     }
 }
 

@@ -3,14 +3,12 @@
 
 #![tactic(auto)]
 
-pub mod answers;
 pub mod cofactors;
 pub mod entries;
 pub mod orders;
 pub mod sum;
 pub mod undoable;
 
-pub use answers::{NumberAnswer, UndoableAnswer};
 pub use cofactors::{cofactor2, cofactor3, cofactor4};
 pub use sum::{signed_sum2, signed_sum3, signed_sum4};
 pub use undoable::{magnitude, one_bit, undoable2, undoable3, undoable4};

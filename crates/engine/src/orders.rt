@@ -3,7 +3,7 @@ ghost use Rattle.std.specs.Prelude.{◌≡◌, ◌<◌};
 ghost use Rattle.engine.specs.Orders.{order_at};
 
 // An order of four columns, and its sign: row r takes the column at place r.
-#[derive(Clone, Copy)]
+#[derive(Clone, Copy, Debug, PartialEq, Eq)]
 pub(crate) struct Order(pub [usize; 4], pub i64);
 
 // The orders of four columns. The first n! of them are the orders of the first n columns, followed by the others in their places.

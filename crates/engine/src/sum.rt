@@ -1,46 +1,45 @@
 // The signed sum over the column orders: one loop over the table serves orders 2, 3 and 4, and the minors of order 1.
 ghost use Rattle.std.specs.Prelude.{◌≡◌, ◌≤◌, take};
-ghost use Rattle.vector.specs.Refusals.{given, after};
+ghost use Rattle.vector.specs.Refusals.{outcome, given, after};
 ghost use Rattle.whole.specs.Order.{Order, down_rows, exact_signed_sum};
 ghost use Rattle.whole.specs.Claim.{factorial};
 ghost use Rattle.engine.specs.Whole.{floats2, floats3, floats4, numbers, wholes, Small};
-ghost use Rattle.engine.specs.Engine.{number_outcome, taken, signed_sum};
+ghost use Rattle.engine.specs.Engine.{taken, signed_sum};
 
-use crate::answers::NumberAnswer;
 use crate::{entries, orders};
 use matrix::{Matrix2, Matrix3, Matrix4};
 use vector::Refusal;
 
 // The signed sum of order 2, or refusal 6.
-pub fn signed_sum2(m: Matrix2) -> NumberAnswer
-    ensures { number_outcome result ≡ signed_sum 1024 2 (floats2 m) }
+pub fn signed_sum2(m: Matrix2) -> Result<i64, Refusal>
+    ensures { outcome result ≡ signed_sum 1024 2 (floats2 m) }
 {
     sum_answer(Matrix4::from_matrix2(m), 2)
 }
 
 // The signed sum of order 3, or refusal 6.
-pub fn signed_sum3(m: Matrix3) -> NumberAnswer
-    ensures { number_outcome result ≡ signed_sum 1024 3 (floats3 m) }
+pub fn signed_sum3(m: Matrix3) -> Result<i64, Refusal>
+    ensures { outcome result ≡ signed_sum 1024 3 (floats3 m) }
 {
     sum_answer(Matrix4::from_matrix3(m), 3)
 }
 
 // The signed sum of order 4, or refusal 6.
-pub fn signed_sum4(m: Matrix4) -> NumberAnswer
-    ensures { number_outcome result ≡ signed_sum 1024 4 (floats4 m) }
+pub fn signed_sum4(m: Matrix4) -> Result<i64, Refusal>
+    ensures { outcome result ≡ signed_sum 1024 4 (floats4 m) }
 {
     sum_answer(m, 4)
 }
 
 // The signed sum of the first n columns and rows, or refusal 6.
-fn sum_answer(m: Matrix4, n: usize) -> NumberAnswer
+fn sum_answer(m: Matrix4, n: usize) -> Result<i64, Refusal>
     requires { n ≤ 4 }
-    ensures { number_outcome result ≡ after (taken 1024 4 (floats4 m)) (given (exact_signed_sum n (numbers (floats4 m)))) }
+    ensures { outcome result ≡ after (taken 1024 4 (floats4 m)) (given (exact_signed_sum n (numbers (floats4 m)))) }
 {
     if entries::whole_entries(m) {
-        NumberAnswer::Given(signed_sum(entries::numbers(m), n))
+        Ok(signed_sum(entries::numbers(m), n))
     } else {
-        NumberAnswer::Refused(Refusal::NotWhole)
+        Err(Refusal::NotWhole)
     }
 }
 
