@@ -11,9 +11,7 @@ use Rattle.vector.specs.declared.refusal.Refusal.TheVariants.{Order}
 use Rattle.vector.specs.Refusals.{Outcome, given, refused_for, after, done, leaves}
 use Rattle.vector.proofs.Checks.{passed}
 use Rattle.matrix.proofs.Ranges.{both}
-use Rattle.bulk.specs.declared.Moved.{Moved}
-use Rattle.bulk.specs.declared.Moved.TheVariants.{Done, Refused}
-use Rattle.bulk.specs.Refusals.{moved_outcome, order_from, number_is, Lengths, move_fits, Fits}
+use Rattle.bulk.specs.Refusals.{order_from, number_is, Lengths, move_fits, Fits}
 
 -- ---- the order
 
@@ -62,9 +60,9 @@ length_is cause length wanted e = eqb-true length wanted (passed _ _ e)
 pub fitting : (short order : ℕ) (l : Lengths) → move_fits short order l ≡ given tt → Fits short order l
 unfolding move_fits
 fitting short order l e =
-    let a = both _ _ e in
-    let b = both _ _ a.1 in
-    let c = both _ _ b.1 in
+    let a = both _ _ (sym e) in
+    let b = both _ _ (sym a.1) in
+    let c = both _ _ (sym b.1) in
     let o = order_is (2 + short) order a.0 in
     record { least = o.0; most = o.1; square = length_is _ _ _ b.0; whole = length_is _ _ _ c.0; same = length_is _ _ _ c.1 }
 
@@ -83,24 +81,3 @@ vectors_last order l f two three = omega (arith, f.least, f.most, two, three)
 
 pub points_last : (order : ℕ) (l : Lengths) → Fits 1 order l → (order ≡ 3 → ⊥) → order ≡ 4
 points_last order l f three = omega (arith, f.least, f.most, three)
-
--- ---- the answer of an entry
-
-module _ (found : Moved) (check : Outcome Unit) (is : moved_outcome found ≡ check) where
-  -- a check that found nothing passes
-  pub passes : found ≡ Done → check ≡ given tt
-  passes e = sym is ∙ ap moved_outcome e
-
-  -- the answer is then done, and what was made is left
-  pub went_on : {A : Type 0} (made : A) → found ≡ Done → given tt ≡ done (after check (given made))
-  went_on made e = rw (passes e)
-
-  pub left : {A : Type 0} (before made : A) → found ≡ Done → leaves before (after check (given made)) ≡ made
-  left before made e = rw (passes e)
-
-  -- a check that found a cause is the answer, and what stood before is left
-  pub stopped : {A : Type 0} (outcome : Outcome A) (cause : Refusal) → found ≡ Refused cause → refused_for cause ≡ done (after check outcome)
-  stopped outcome cause e = rw (sym is ∙ ap moved_outcome e)
-
-  pub kept : {A : Type 0} (before : A) (outcome : Outcome A) (cause : Refusal) → found ≡ Refused cause → before ≡ leaves before (after check outcome)
-  kept before outcome cause e = rw (sym is ∙ ap moved_outcome e)
