@@ -1,109 +1,153 @@
--- The one law of load, call and store, whatever the order and the width: an entry whose tests passed answers and leaves what stands for its order;
--- an entry whose tests found a cause answers that and leaves the output as it was. Assumes nothing.
-use mathlib.Core.Path.{◌≡◌, refl, ap, ◌∙◌}
+-- The one law of an entry, whatever its order and its width: what the arm of its order answers and leaves is the entry's outcome,
+-- and an order that has no arm is refused. Assumes nothing.
+use mathlib.Core.Path.{◌≡◌, refl, sym, ap, ◌∙◌}
 use mathlib.Core.List.{List, [], ◌∷◌}
-use Prim.Native.Nat.{ℕ}
-use mathlib.Core.Bool.{cond}
-use lib.Dec.{eqb}
+use Prim.Native.Nat.{ℕ, zero, suc, ◌*◌, ◌^◌, ◌<◌, ◌≤◌}
+use native.Mathlib.Omega.{arith}
 use lib.Ieee.{Float}
+use mathlib.Core.Bool.{cond}
+use lib.Dec.{eqb, lit≤}
 use lib.ListN.{length}
-use Rattle.vector.specs.Refusals.{Outcome, given, refused, after, done, leaves}
+use Rattle.std.specs.Prelude.{Result, Err}
+use Rattle.vector.specs.declared.refusal.Refusal.{Refusal}
+use Rattle.vector.specs.declared.refusal.Refusal.TheVariants.{InputLength, OutputLength, Order}
+use Rattle.vector.specs.Refusals.{Outcome, given, refused, refused_for, outcome, after, done, leaves}
 use Rattle.matrix.specs.declared.records.Matrix2.{Matrix2}
 use Rattle.matrix.specs.declared.records.Matrix3.{Matrix3}
 use Rattle.matrix.specs.declared.records.Matrix4.{Matrix4}
 use Rattle.bulk.specs.Moves.{flat2, flat3, flat4}
-use Rattle.migthumo.specs.Entries.{code, Answers, entry_fits, fits_to, by_order}
+use Rattle.bulk.specs.Refusals.{order_from, number_is}
+use Rattle.bulk.proofs.Checks.{order_taken, order_low, order_high}
+use Rattle.migthumo.specs.Made.{Left}
+use Rattle.migthumo.specs.Entries.{code, Answers, entry_fits, by_order}
 use Rattle.migthumo.specs.Flat.{numbers3, numbers4}
-use Rattle.migthumo.specs.Boundary.{of_one, of_two, rotation_of, embed_of, embed}
-use Rattle.migthumo.proofs.Checks.{Fitted}
+use Rattle.migthumo.specs.Boundary.{of_one, of_two, rotation_of}
 
--- ---- the tests found a cause
-
-stopped : {A : Type 0} {r : ℕ} {entry : A} (check : Outcome Unit) (outcome : Outcome A) → r ≡ code check → (r ≡ 0 → ⊥) → Answers r entry entry (after check outcome)
-stopped (given u) outcome is found = absurd (found is)
-stopped (refused why) outcome is found = record { answer = is; left = refl }
-
-module _ {A : Type 0} {r : ℕ} {entry : List A} where
-  pub stopped_one : (width order out : ℕ) (m : List Float) (f : Matrix2 → Outcome (List A)) (g : Matrix3 → Outcome (List A)) (h : Matrix4 → Outcome (List A))
-      → r ≡ code (entry_fits 2 order (length m ∷ []) width out) → (r ≡ 0 → ⊥) → Answers r entry entry (of_one width order m out f g h)
-  unfolding of_one
-  stopped_one width order out m f g h is found = stopped (entry_fits 2 order (length m ∷ []) width out) (by_order order (f (flat2 m)) (g (flat3 m)) (h (flat4 m))) is found
-
-  pub stopped_two : (width order out : ℕ) (a b : List Float) (f : Matrix2 → Matrix2 → Outcome (List A)) (g : Matrix3 → Matrix3 → Outcome (List A)) (h : Matrix4 → Matrix4 → Outcome (List A))
-      → r ≡ code (entry_fits 2 order (length a ∷ length b ∷ []) width out) → (r ≡ 0 → ⊥) → Answers r entry entry (of_two width order a b out f g h)
-  unfolding of_two
-  stopped_two width order out a b f g h is found =
-      stopped (entry_fits 2 order (length a ∷ length b ∷ []) width out) (by_order order (f (flat2 a) (flat2 b)) (g (flat3 a) (flat3 b)) (h (flat4 a) (flat4 b))) is found
-
-pub stopped_rotation : {r : ℕ} {entry : List Float} (order out : ℕ) (three : Matrix3) (four : Matrix4) → r ≡ code (entry_fits 3 order [] 2 out) → (r ≡ 0 → ⊥) → Answers r entry entry (rotation_of order out three four)
-unfolding rotation_of
-stopped_rotation order out three four is found =
-    stopped (entry_fits 3 order [] 2 out) (cond (eqb order 3) (given (numbers3 three)) (given (numbers4 four))) is found
-
-pub stopped_embedding : {r : ℕ} {entry : List Float} (order to : ℕ) (m : List Float) (out : ℕ) → r ≡ code (fits_to order to (length m) out) → (r ≡ 0 → ⊥) → Answers r entry entry (embed order to m out)
-unfolding embed
-stopped_embedding order to m out is found = stopped (fits_to order to (length m) out) (embed_of order to m) is found
-
--- ---- the tests found nothing
-
-module _ {A : Type 0} {r : ℕ} {entry exit : A} {made : Outcome A} (told : Answers r entry exit made) where
-  -- what was made is what was to be made
-  pub same : {outcome : Outcome A} → made ≡ outcome → Answers r entry exit outcome
-  same e = record { answer = told.answer ∙ ap code e; left = told.left ∙ ap (leaves entry) e }
-
-  -- and follows the tests
-  pub went_on : {check : Outcome Unit} {outcome : Outcome A} → check ≡ given tt → made ≡ outcome → Answers r entry exit (after check outcome)
-  went_on {check = check} {outcome = outcome} passed e = same {outcome = after check outcome} (rw passed e)
-
--- what is made of the matrix that was loaded stands for its order
-module _ {A : Type 0} {r : ℕ} {entry exit : List A} {made : Outcome (List A)} (told : Answers r entry exit made)
-    {width order out : ℕ} (m : List Float) (fit : Fitted 2 order (length m ∷ []) width out)
-    (f : Matrix2 → Outcome (List A)) (g : Matrix3 → Outcome (List A)) (h : Matrix4 → Outcome (List A)) where
-  pub one2 : order ≡ 2 → {loaded : Matrix2} → loaded ≡ flat2 m → made ≡ f loaded → Answers r entry exit (of_one width order m out f g h)
-  unfolding of_one
-  one2 at is e = went_on told fit.passes (rw (at, ← is) e)
-
-  pub one3 : order ≡ 3 → {loaded : Matrix3} → loaded ≡ flat3 m → made ≡ g loaded → Answers r entry exit (of_one width order m out f g h)
-  unfolding of_one
-  one3 at is e = went_on told fit.passes (rw (at, ← is) e)
-
-  pub one4 : order ≡ 4 → {loaded : Matrix4} → loaded ≡ flat4 m → made ≡ h loaded → Answers r entry exit (of_one width order m out f g h)
-  unfolding of_one
-  one4 at is e = went_on told fit.passes (rw (at, ← is) e)
-
--- what is made of the two
-module _ {A : Type 0} {r : ℕ} {entry exit : List A} {made : Outcome (List A)} (told : Answers r entry exit made)
-    {width order out : ℕ} (a b : List Float) (fit : Fitted 2 order (length a ∷ length b ∷ []) width out)
-    (f : Matrix2 → Matrix2 → Outcome (List A)) (g : Matrix3 → Matrix3 → Outcome (List A)) (h : Matrix4 → Matrix4 → Outcome (List A)) where
-  pub two2 : order ≡ 2 → {left right : Matrix2} → left ≡ flat2 a → right ≡ flat2 b → made ≡ f left right → Answers r entry exit (of_two width order a b out f g h)
-  unfolding of_two
-  two2 at is-a is_b e = went_on told fit.passes (rw (at, ← is-a, ← is_b) e)
-
-  pub two3 : order ≡ 3 → {left right : Matrix3} → left ≡ flat3 a → right ≡ flat3 b → made ≡ g left right → Answers r entry exit (of_two width order a b out f g h)
-  unfolding of_two
-  two3 at is-a is_b e = went_on told fit.passes (rw (at, ← is-a, ← is_b) e)
-
-  pub two4 : order ≡ 4 → {left right : Matrix4} → left ≡ flat4 a → right ≡ flat4 b → made ≡ h left right → Answers r entry exit (of_two width order a b out f g h)
-  unfolding of_two
-  two4 at is-a is_b e = went_on told fit.passes (rw (at, ← is-a, ← is_b) e)
-
--- a rotation
-module _ {r : ℕ} {entry exit : List Float} {made : Outcome (List Float)} (told : Answers r entry exit made)
-    {order out : ℕ} (fit : Fitted 3 order [] 2 out) (three : Matrix3) (four : Matrix4) where
-  pub rotation3 : order ≡ 3 → made ≡ given (numbers3 three) → Answers r entry exit (rotation_of order out three four)
-  unfolding rotation_of
-  rotation3 at e = went_on told fit.passes (rw at e)
-
-  pub rotation4 : order ≡ 4 → made ≡ given (numbers4 four) → Answers r entry exit (rotation_of order out three four)
-  unfolding rotation_of
-  rotation4 at e = went_on told fit.passes (rw at e)
-
--- ---- an answer that another crate gave, done or refused
+-- ---- what is answered and left
 
 -- done or refused, the number is the same
-of_done : {A : Type 0} (outcome : Outcome A) → code (done outcome) ≡ code outcome
+of_done : {A : Type 0} (o : Outcome A) → code (done o) ≡ code o
 of_done (given a) = refl
 of_done (refused why) = refl
 
-pub passed_on : {A : Type 0} {r : ℕ} {entry exit : A} {outcome : Outcome A} (said : Outcome Unit) → r ≡ code said → said ≡ done outcome → exit ≡ leaves entry outcome → Answers r entry exit outcome
-passed_on {outcome = outcome} said is e put = record { answer = is ∙ ap code e ∙ of_done outcome; left = put }
+-- the answer of a branch, as the number that is answered for it
+pub answers : {A : Type 0} {u : ℕ} {answer r : Result Unit Refusal} {entry exit out : A} (o : Outcome A)
+    → u ≡ code (outcome answer) → answer ≡ r → out ≡ exit → Left r entry exit o → Answers u entry out o
+answers {entry = entry} o is branch left told =
+    record { answer = is ∙ ap code (ap outcome branch ∙ told.answer) ∙ of_done o; left = left ∙ told.left }
+
+-- ---- the tests, in the order that the code makes them
+
+first : {A : Type 0} (a b : Outcome Unit) (o : Outcome A) → after a (after b o) ≡ after (after (after a (given tt)) b) o
+first (given u) b o = refl
+first (refused why) b o = refl
+
+second : {A : Type 0} (a b c : Outcome Unit) (o : Outcome A) → after a (after b (after c o)) ≡ after (after (after a (after b (given tt))) c) o
+second (given u) b c o = first b c o
+second (refused why) b c o = refl
+
+module _ {A : Type 0} (width n : ℕ) (low : 2 ≤ n) (high : n ≤ 4) where
+  fit1 : (m out : ℕ) (o : Outcome A)
+      → after (number_is InputLength m (n * n)) (after (number_is OutputLength out (n ^ width)) o) ≡ after (entry_fits 2 n (m ∷ []) width out) o
+  unfolding entry_fits
+  fit1 m out o = rw (order_taken 2 n low high) (first (number_is InputLength m (n * n)) (number_is OutputLength out (n ^ width)) o)
+
+  fit2 : (a b out : ℕ) (o : Outcome A)
+      → after (number_is InputLength a (n * n)) (after (number_is InputLength b (n * n)) (after (number_is OutputLength out (n ^ width)) o)) ≡ after (entry_fits 2 n (a ∷ b ∷ []) width out) o
+  unfolding entry_fits
+  fit2 a b out o = rw (order_taken 2 n low high) (second (number_is InputLength a (n * n)) (number_is InputLength b (n * n)) (number_is OutputLength out (n ^ width)) o)
+
+-- ---- the arm of an order
+
+module _ {A : Type 0} {u order : ℕ} {answer r : Result Unit Refusal} {entry exit out : List A} (is : u ≡ code (outcome answer)) (branch : answer ≡ r) (left : out ≡ exit) where
+  module _ (width : ℕ) (m : List Float) (f : Matrix2 → Outcome (List A)) (g : Matrix3 → Outcome (List A)) (h : Matrix4 → Outcome (List A)) where
+    -- of one matrix
+    one : (n : ℕ) → 2 ≤ n → n ≤ 4 → order ≡ n
+        → Left r entry exit (after (number_is InputLength (length m) (n * n)) (after (number_is OutputLength (length entry) (n ^ width)) (by_order n (f (flat2 m)) (g (flat3 m)) (h (flat4 m)))))
+        → Answers u entry out (of_one width order m (length entry) f g h)
+    unfolding of_one
+    one n low high at told =
+        rw (at, ← fit1 width n low high (length m) (length entry) (by_order n (f (flat2 m)) (g (flat3 m)) (h (flat4 m))))
+        (answers (after (number_is InputLength (length m) (n * n)) (after (number_is OutputLength (length entry) (n ^ width)) (by_order n (f (flat2 m)) (g (flat3 m)) (h (flat4 m))))) is branch left told)
+
+    pub one2 : order ≡ 2 → Left r entry exit (after (number_is InputLength (length m) 4) (after (number_is OutputLength (length entry) (2 ^ width)) (f (flat2 m)))) → Answers u entry out (of_one width order m (length entry) f g h)
+    one2 = one 2 (lit≤ tt) (lit≤ tt)
+
+    pub one3 : order ≡ 3 → Left r entry exit (after (number_is InputLength (length m) 9) (after (number_is OutputLength (length entry) (3 ^ width)) (g (flat3 m)))) → Answers u entry out (of_one width order m (length entry) f g h)
+    one3 = one 3 (lit≤ tt) (lit≤ tt)
+
+    pub one4 : order ≡ 4 → Left r entry exit (after (number_is InputLength (length m) 16) (after (number_is OutputLength (length entry) (4 ^ width)) (h (flat4 m)))) → Answers u entry out (of_one width order m (length entry) f g h)
+    one4 = one 4 (lit≤ tt) (lit≤ tt)
+
+  module _ (width : ℕ) (a b : List Float) (f : Matrix2 → Matrix2 → Outcome (List A)) (g : Matrix3 → Matrix3 → Outcome (List A)) (h : Matrix4 → Matrix4 → Outcome (List A)) where
+    -- of two matrices
+    two : (n : ℕ) → 2 ≤ n → n ≤ 4 → order ≡ n
+        → Left r entry exit (after (number_is InputLength (length a) (n * n)) (after (number_is InputLength (length b) (n * n)) (after (number_is OutputLength (length entry) (n ^ width)) (by_order n (f (flat2 a) (flat2 b)) (g (flat3 a) (flat3 b)) (h (flat4 a) (flat4 b))))))
+        → Answers u entry out (of_two width order a b (length entry) f g h)
+    unfolding of_two
+    two n low high at told =
+        rw (at, ← fit2 width n low high (length a) (length b) (length entry) (by_order n (f (flat2 a) (flat2 b)) (g (flat3 a) (flat3 b)) (h (flat4 a) (flat4 b))))
+        (answers (after (number_is InputLength (length a) (n * n)) (after (number_is InputLength (length b) (n * n)) (after (number_is OutputLength (length entry) (n ^ width)) (by_order n (f (flat2 a) (flat2 b)) (g (flat3 a) (flat3 b)) (h (flat4 a) (flat4 b)))))) is branch left told)
+
+    pub two2 : order ≡ 2 → Left r entry exit (after (number_is InputLength (length a) 4) (after (number_is InputLength (length b) 4) (after (number_is OutputLength (length entry) (2 ^ width)) (f (flat2 a) (flat2 b))))) → Answers u entry out (of_two width order a b (length entry) f g h)
+    two2 = two 2 (lit≤ tt) (lit≤ tt)
+
+    pub two3 : order ≡ 3 → Left r entry exit (after (number_is InputLength (length a) 9) (after (number_is InputLength (length b) 9) (after (number_is OutputLength (length entry) (3 ^ width)) (g (flat3 a) (flat3 b))))) → Answers u entry out (of_two width order a b (length entry) f g h)
+    two3 = two 3 (lit≤ tt) (lit≤ tt)
+
+    pub two4 : order ≡ 4 → Left r entry exit (after (number_is InputLength (length a) 16) (after (number_is InputLength (length b) 16) (after (number_is OutputLength (length entry) (4 ^ width)) (h (flat4 a) (flat4 b))))) → Answers u entry out (of_two width order a b (length entry) f g h)
+    two4 = two 4 (lit≤ tt) (lit≤ tt)
+
+-- a rotation
+module _ {u order : ℕ} {answer r : Result Unit Refusal} {entry exit out : List Float} (is : u ≡ code (outcome answer)) (branch : answer ≡ r) (left : out ≡ exit) (three : Matrix3) (four : Matrix4) where
+  pub rotation3 : order ≡ 3 → Left r entry exit (after (number_is OutputLength (length entry) 9) (given (numbers3 three))) → Answers u entry out (rotation_of order (length entry) three four)
+  unfolding rotation_of entry_fits order_from
+  rotation3 at told = rw at (answers (after (number_is OutputLength (length entry) 9) (given (numbers3 three))) is branch left told)
+
+  pub rotation4 : order ≡ 4 → Left r entry exit (after (number_is OutputLength (length entry) 16) (given (numbers4 four))) → Answers u entry out (rotation_of order (length entry) three four)
+  unfolding rotation_of entry_fits order_from
+  rotation4 at told = rw at (answers (after (number_is OutputLength (length entry) 16) (given (numbers4 four))) is branch left told)
+
+-- ---- an order that has no arm
+
+not2 : (order : ℕ) → (order ≡ 2 → ⊥) → (order ≡ 3 → ⊥) → (order ≡ 4 → ⊥) → order_from 2 order ≡ refused_for Order
+unfolding order_from
+not2 zero two three four = refl
+not2 (suc zero) two three four = refl
+not2 (suc (suc zero)) two three four = absurd (two refl)
+not2 (suc (suc (suc zero))) two three four = absurd (three refl)
+not2 (suc (suc (suc (suc zero)))) two three four = absurd (four refl)
+not2 (suc (suc (suc (suc (suc n))))) two three four = order_high 2 (suc (suc (suc (suc (suc n))))) (omega arith) (omega arith)
+
+not3 : (order : ℕ) → (order ≡ 3 → ⊥) → (order ≡ 4 → ⊥) → order_from 3 order ≡ refused_for Order
+unfolding order_from
+not3 zero three four = refl
+not3 (suc zero) three four = refl
+not3 (suc (suc zero)) three four = refl
+not3 (suc (suc (suc zero))) three four = absurd (three refl)
+not3 (suc (suc (suc (suc zero)))) three four = absurd (four refl)
+not3 (suc (suc (suc (suc (suc n))))) three four = order_high 3 (suc (suc (suc (suc (suc n))))) (omega arith) (omega arith)
+
+module _ {A : Type 0} {u : ℕ} {answer : Result Unit Refusal} {entry out : A} (is : u ≡ code (outcome answer)) (refuses : answer ≡ Err Order) (kept : out ≡ entry) where
+  -- 5 is answered, and nothing is written, whatever would follow
+  pub order_refused : (check : Outcome Unit) (o : Outcome A) → check ≡ refused_for Order → Answers u entry out (after check o)
+  order_refused check o e = rw e (record { answer = is ∙ ap code (ap outcome refuses); left = kept })
+
+module _ {A : Type 0} {u order : ℕ} {answer : Result Unit Refusal} {entry out : List A} (is : u ≡ code (outcome answer)) (refuses : answer ≡ Err Order) (kept : out ≡ entry) (width : ℕ) where
+  pub none1 : (m : List Float) (f : Matrix2 → Outcome (List A)) (g : Matrix3 → Outcome (List A)) (h : Matrix4 → Outcome (List A))
+      → (order ≡ 2 → ⊥) → (order ≡ 3 → ⊥) → (order ≡ 4 → ⊥) → Answers u entry out (of_one width order m (length entry) f g h)
+  unfolding of_one entry_fits
+  none1 m f g h two three four =
+      order_refused is refuses kept (entry_fits 2 order (length m ∷ []) width (length entry)) (by_order order (f (flat2 m)) (g (flat3 m)) (h (flat4 m))) (rw (not2 order two three four))
+
+  pub none2 : (a b : List Float) (f : Matrix2 → Matrix2 → Outcome (List A)) (g : Matrix3 → Matrix3 → Outcome (List A)) (h : Matrix4 → Matrix4 → Outcome (List A))
+      → (order ≡ 2 → ⊥) → (order ≡ 3 → ⊥) → (order ≡ 4 → ⊥) → Answers u entry out (of_two width order a b (length entry) f g h)
+  unfolding of_two entry_fits
+  none2 a b f g h two three four =
+      order_refused is refuses kept (entry_fits 2 order (length a ∷ length b ∷ []) width (length entry)) (by_order order (f (flat2 a) (flat2 b)) (g (flat3 a) (flat3 b)) (h (flat4 a) (flat4 b))) (rw (not2 order two three four))
+
+pub no_rotation : {u order : ℕ} {answer : Result Unit Refusal} {entry out : List Float} → u ≡ code (outcome answer) → answer ≡ Err Order → out ≡ entry → (three : Matrix3) (four : Matrix4)
+    → (order ≡ 3 → ⊥) → (order ≡ 4 → ⊥) → Answers u entry out (rotation_of order (length entry) three four)
+unfolding rotation_of entry_fits
+no_rotation {order = order} {entry = entry} is refuses kept three four ne3 ne4 =
+    order_refused is refuses kept (entry_fits 3 order [] 2 (length entry)) (cond (eqb order 3) (given (numbers3 three)) (given (numbers4 four))) (rw (not3 order ne3 ne4))

@@ -1,6 +1,5 @@
-pub mod Checks
 pub mod Flat
-pub mod Entries
-pub mod TwoOutputs
+pub mod Left
 pub mod Told
-pub mod Unique
+pub mod Entries
+pub mod Embeddings

@@ -1,14 +1,12 @@
 -- What an answer tells of its cause: the number, the place, and so the cause itself. Assumes nothing.
 use mathlib.Core.Path.{◌≡◌, refl}
 use mathlib.Core.Bool.{cond}
-use Prim.Native.Nat.{ℕ, ◌+◌, ◌/◌, ◌%◌, ◌<◌, ◌≤◌}
-use lib.Dec.{eqb, lit<, lit≤}
+use Prim.Native.Nat.{ℕ, ◌+◌, ◌/◌, ◌%◌, ◌<◌}
+use lib.Dec.{eqb, lit<}
 use Rattle.vector.specs.declared.refusal.Place.TheVariants.{First, Second}
-use Rattle.vector.specs.declared.refusal.Placed.{Placed}
-use Rattle.vector.specs.declared.refusal.Placed.TheVariants.{At, Nowhere}
 use Rattle.vector.specs.declared.refusal.Refusal.{Refusal}
 use Rattle.vector.specs.declared.refusal.Refusal.TheVariants.{Column, Row, Singular, InputLength, OutputLength, Order, NotWhole}
-use Rattle.vector.specs.Refusals.{Meant, bare, placed, means, number_of, place_of}
+use Rattle.vector.specs.Refusals.{bare, means, number_of, place_of}
 use Rattle.vector.proofs.Answers.{cause, one_meaning}
 use Rattle.migthumo.specs.Entries.{code_of, second, CodeTells}
 
@@ -66,33 +64,6 @@ high InputLength = refl
 high OutputLength = refl
 high Order = refl
 high NotWhole = refl
-
--- ---- what the code adds up
-
--- no number passes 12
-pub small : (r : Refusal) → number_of (means r) ≤ 12
-small (Column place) = lit≤ tt
-small (Row place) = lit≤ tt
-small Singular = lit≤ tt
-small InputLength = lit≤ tt
-small OutputLength = lit≤ tt
-small Order = lit≤ tt
-small NotWhole = lit≤ tt
-
--- a number, and 256 more at the second place
-abbrev code_at : ℕ → Placed → ℕ
-code_at n Nowhere = n
-code_at n (At First) = n
-code_at n (At Second) = n + 256
-
--- that is what is answered
-code_at_lem : (why : Meant) → code_at (number_of why) (place_of why) ≡ code_of why
-code_at_lem (bare n) = refl
-code_at_lem (placed n First) = refl
-code_at_lem (placed n Second) = refl
-
-pub code_of_lem : (r : Refusal) (n : ℕ) (found place : Placed) → n ≡ number_of (means r) → found ≡ place_of (means r) → found ≡ place → code_at n place ≡ answer r
-code_of_lem r n found place is at told = rw (is, ← told, at) (code_at_lem (means r))
 
 -- ---- the claim
 

@@ -1,10 +1,9 @@
 -- Document 01, 'The numbers a refusal carries': what an entry of the boundary tests first, in the order 5, 3, 4, and what it answers and leaves.
 -- Document 02, No. 1, 'Say column or row', has a number and a place; that they cross as one number is the boundary's own rule.
 -- Assumes nothing.
-use Rattle.std.specs.Prelude.{ℕ, ◌+◌, ◌*◌, ◌/◌, ◌%◌, ◌^◌, ◌<◌, ◌≡◌, cond, ◌&&◌, List, [], ◌∷◌, leb, ltb, eqb}
+use Rattle.std.specs.Prelude.{ℕ, Option, Some, None, ◌+◌, ◌*◌, ◌/◌, ◌%◌, ◌^◌, ◌<◌, ◌≡◌, cond, ◌&&◌, List, [], ◌∷◌, leb, ltb, eqb}
+use Rattle.vector.specs.declared.refusal.Place.{Place}
 use Rattle.vector.specs.declared.refusal.Place.TheVariants.{First, Second}
-use Rattle.vector.specs.declared.refusal.Placed.{Placed}
-use Rattle.vector.specs.declared.refusal.Placed.TheVariants.{At, Nowhere}
 use Rattle.vector.specs.declared.refusal.Refusal.{Refusal}
 use Rattle.vector.specs.declared.refusal.Refusal.TheVariants.{InputLength, OutputLength, Order}
 use Rattle.vector.specs.Refusals.{Outcome, given, refused, Meant, bare, placed, means, number_of, place_of, refused_for, after, leaves}
@@ -22,10 +21,10 @@ code (given _) = 0
 code (refused why) = code_of why
 
 -- 1 at the second place, 0 at the first and where there is none
-abbrev pub second : Placed → ℕ
-second Nowhere = 0
-second (At First) = 0
-second (At Second) = 1
+abbrev pub second : Option Place → ℕ
+second None = 0
+second (Some First) = 0
+second (Some Second) = 1
 
 -- what an answer tells of its cause: it is neither 0 nor 1, which is retired; its last eight bits are the number, and what
 -- stands above them says whether the place is the second; no two causes share one. Shown in proofs/Told.antt

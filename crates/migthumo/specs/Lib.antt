@@ -1,3 +1,4 @@
+pub mod Made
 pub mod Entries
 pub mod Flat
 pub mod Boundary

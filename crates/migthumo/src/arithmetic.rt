@@ -3,33 +3,21 @@ ghost use Rattle.std.specs.Prelude.{length};
 ghost use Rattle.migthumo.specs.Entries.{Answers};
 ghost use Rattle.migthumo.specs.Boundary.{product, add, subtract, scale, divide, scale_by, divide_by, negate};
 
-use crate::{check, load, store};
-use matrix::{Matrix2Answer, Matrix3Answer, Matrix4Answer};
-use vector::VectorSpace;
+use crate::{code, entry};
+use matrix::{Matrix2, Matrix3, Matrix4};
+use vector::{Refusal, VectorSpace};
 
 // The product a times b.
 #[unsafe(no_mangle)]
 pub extern "C" fn migthumo_product(order: usize, a: &[f64], b: &[f64], out: &mut [f64]) -> u32
     ensures { Answers result out.old out.new (product order a.now b.now (length out.old)) }
 {
-    let refusal = check::two(order, a.len(), b.len(), 2, out.len());
-    if refusal != 0 {
-        return refusal;
-    }
-    match order {
-        2 => store::matrix2(
-            Matrix2Answer::Given(load::matrix2(a).mul(load::matrix2(b))),
-            out,
-        ),
-        3 => store::matrix3(
-            Matrix3Answer::Given(load::matrix3(a).mul(load::matrix3(b))),
-            out,
-        ),
-        _ => store::matrix4(
-            Matrix4Answer::Given(load::matrix4(a).mul(load::matrix4(b))),
-            out,
-        ),
-    }
+    code::answered(match order {
+        2 => entry::of_two(a, b, out, |a: Matrix2, b: Matrix2| Ok(a.mul(b))),
+        3 => entry::of_two(a, b, out, |a: Matrix3, b: Matrix3| Ok(a.mul(b))),
+        4 => entry::of_two(a, b, out, |a: Matrix4, b: Matrix4| Ok(a.mul(b))),
+        _ => Err(Refusal::Order),
+    })
 }
 
 // The sum, entry by entry.
@@ -37,24 +25,12 @@ pub extern "C" fn migthumo_product(order: usize, a: &[f64], b: &[f64], out: &mut
 pub extern "C" fn migthumo_add(order: usize, a: &[f64], b: &[f64], out: &mut [f64]) -> u32
     ensures { Answers result out.old out.new (add order a.now b.now (length out.old)) }
 {
-    let refusal = check::two(order, a.len(), b.len(), 2, out.len());
-    if refusal != 0 {
-        return refusal;
-    }
-    match order {
-        2 => store::matrix2(
-            Matrix2Answer::Given(load::matrix2(a).add(load::matrix2(b))),
-            out,
-        ),
-        3 => store::matrix3(
-            Matrix3Answer::Given(load::matrix3(a).add(load::matrix3(b))),
-            out,
-        ),
-        _ => store::matrix4(
-            Matrix4Answer::Given(load::matrix4(a).add(load::matrix4(b))),
-            out,
-        ),
-    }
+    code::answered(match order {
+        2 => entry::of_two(a, b, out, |a: Matrix2, b: Matrix2| Ok(a.add(b))),
+        3 => entry::of_two(a, b, out, |a: Matrix3, b: Matrix3| Ok(a.add(b))),
+        4 => entry::of_two(a, b, out, |a: Matrix4, b: Matrix4| Ok(a.add(b))),
+        _ => Err(Refusal::Order),
+    })
 }
 
 // The difference a less b, entry by entry.
@@ -62,24 +38,12 @@ pub extern "C" fn migthumo_add(order: usize, a: &[f64], b: &[f64], out: &mut [f6
 pub extern "C" fn migthumo_subtract(order: usize, a: &[f64], b: &[f64], out: &mut [f64]) -> u32
     ensures { Answers result out.old out.new (subtract order a.now b.now (length out.old)) }
 {
-    let refusal = check::two(order, a.len(), b.len(), 2, out.len());
-    if refusal != 0 {
-        return refusal;
-    }
-    match order {
-        2 => store::matrix2(
-            Matrix2Answer::Given(load::matrix2(a).sub(load::matrix2(b))),
-            out,
-        ),
-        3 => store::matrix3(
-            Matrix3Answer::Given(load::matrix3(a).sub(load::matrix3(b))),
-            out,
-        ),
-        _ => store::matrix4(
-            Matrix4Answer::Given(load::matrix4(a).sub(load::matrix4(b))),
-            out,
-        ),
-    }
+    code::answered(match order {
+        2 => entry::of_two(a, b, out, |a: Matrix2, b: Matrix2| Ok(a.sub(b))),
+        3 => entry::of_two(a, b, out, |a: Matrix3, b: Matrix3| Ok(a.sub(b))),
+        4 => entry::of_two(a, b, out, |a: Matrix4, b: Matrix4| Ok(a.sub(b))),
+        _ => Err(Refusal::Order),
+    })
 }
 
 // The scalar, on the left, times the matrix.
@@ -87,15 +51,12 @@ pub extern "C" fn migthumo_subtract(order: usize, a: &[f64], b: &[f64], out: &mu
 pub extern "C" fn migthumo_scale(order: usize, s: f64, m: &[f64], out: &mut [f64]) -> u32
     ensures { Answers result out.old out.new (scale order s m.now (length out.old)) }
 {
-    let refusal = check::one(order, m.len(), 2, out.len());
-    if refusal != 0 {
-        return refusal;
-    }
-    match order {
-        2 => store::matrix2(Matrix2Answer::Given(load::matrix2(m).scalar_mul(s)), out),
-        3 => store::matrix3(Matrix3Answer::Given(load::matrix3(m).scalar_mul(s)), out),
-        _ => store::matrix4(Matrix4Answer::Given(load::matrix4(m).scalar_mul(s)), out),
-    }
+    code::answered(match order {
+        2 => entry::of_one(m, out, |m: Matrix2| Ok(m.scalar_mul(s))),
+        3 => entry::of_one(m, out, |m: Matrix3| Ok(m.scalar_mul(s))),
+        4 => entry::of_one(m, out, |m: Matrix4| Ok(m.scalar_mul(s))),
+        _ => Err(Refusal::Order),
+    })
 }
 
 // The scalar, on the left, divided by each entry.
@@ -103,15 +64,12 @@ pub extern "C" fn migthumo_scale(order: usize, s: f64, m: &[f64], out: &mut [f64
 pub extern "C" fn migthumo_divide(order: usize, s: f64, m: &[f64], out: &mut [f64]) -> u32
     ensures { Answers result out.old out.new (divide order s m.now (length out.old)) }
 {
-    let refusal = check::one(order, m.len(), 2, out.len());
-    if refusal != 0 {
-        return refusal;
-    }
-    match order {
-        2 => store::matrix2(Matrix2Answer::Given(load::matrix2(m).scalar_div(s)), out),
-        3 => store::matrix3(Matrix3Answer::Given(load::matrix3(m).scalar_div(s)), out),
-        _ => store::matrix4(Matrix4Answer::Given(load::matrix4(m).scalar_div(s)), out),
-    }
+    code::answered(match order {
+        2 => entry::of_one(m, out, |m: Matrix2| Ok(m.scalar_div(s))),
+        3 => entry::of_one(m, out, |m: Matrix3| Ok(m.scalar_div(s))),
+        4 => entry::of_one(m, out, |m: Matrix4| Ok(m.scalar_div(s))),
+        _ => Err(Refusal::Order),
+    })
 }
 
 // The matrix times the scalar, on the right.
@@ -119,15 +77,12 @@ pub extern "C" fn migthumo_divide(order: usize, s: f64, m: &[f64], out: &mut [f6
 pub extern "C" fn migthumo_scale_by(order: usize, m: &[f64], s: f64, out: &mut [f64]) -> u32
     ensures { Answers result out.old out.new (scale_by order m.now s (length out.old)) }
 {
-    let refusal = check::one(order, m.len(), 2, out.len());
-    if refusal != 0 {
-        return refusal;
-    }
-    match order {
-        2 => store::matrix2(Matrix2Answer::Given(load::matrix2(m).mul_scalar(s)), out),
-        3 => store::matrix3(Matrix3Answer::Given(load::matrix3(m).mul_scalar(s)), out),
-        _ => store::matrix4(Matrix4Answer::Given(load::matrix4(m).mul_scalar(s)), out),
-    }
+    code::answered(match order {
+        2 => entry::of_one(m, out, |m: Matrix2| Ok(m.mul_scalar(s))),
+        3 => entry::of_one(m, out, |m: Matrix3| Ok(m.mul_scalar(s))),
+        4 => entry::of_one(m, out, |m: Matrix4| Ok(m.mul_scalar(s))),
+        _ => Err(Refusal::Order),
+    })
 }
 
 // Each entry divided by the scalar, on the right.
@@ -135,15 +90,12 @@ pub extern "C" fn migthumo_scale_by(order: usize, m: &[f64], s: f64, out: &mut [
 pub extern "C" fn migthumo_divide_by(order: usize, m: &[f64], s: f64, out: &mut [f64]) -> u32
     ensures { Answers result out.old out.new (divide_by order m.now s (length out.old)) }
 {
-    let refusal = check::one(order, m.len(), 2, out.len());
-    if refusal != 0 {
-        return refusal;
-    }
-    match order {
-        2 => store::matrix2(Matrix2Answer::Given(load::matrix2(m).div_scalar(s)), out),
-        3 => store::matrix3(Matrix3Answer::Given(load::matrix3(m).div_scalar(s)), out),
-        _ => store::matrix4(Matrix4Answer::Given(load::matrix4(m).div_scalar(s)), out),
-    }
+    code::answered(match order {
+        2 => entry::of_one(m, out, |m: Matrix2| Ok(m.div_scalar(s))),
+        3 => entry::of_one(m, out, |m: Matrix3| Ok(m.div_scalar(s))),
+        4 => entry::of_one(m, out, |m: Matrix4| Ok(m.div_scalar(s))),
+        _ => Err(Refusal::Order),
+    })
 }
 
 // Every sign turned.
@@ -151,13 +103,10 @@ pub extern "C" fn migthumo_divide_by(order: usize, m: &[f64], s: f64, out: &mut 
 pub extern "C" fn migthumo_negate(order: usize, m: &[f64], out: &mut [f64]) -> u32
     ensures { Answers result out.old out.new (negate order m.now (length out.old)) }
 {
-    let refusal = check::one(order, m.len(), 2, out.len());
-    if refusal != 0 {
-        return refusal;
-    }
-    match order {
-        2 => store::matrix2(Matrix2Answer::Given(load::matrix2(m).neg()), out),
-        3 => store::matrix3(Matrix3Answer::Given(load::matrix3(m).neg()), out),
-        _ => store::matrix4(Matrix4Answer::Given(load::matrix4(m).neg()), out),
-    }
+    code::answered(match order {
+        2 => entry::of_one(m, out, |m: Matrix2| Ok(m.neg())),
+        3 => entry::of_one(m, out, |m: Matrix3| Ok(m.neg())),
+        4 => entry::of_one(m, out, |m: Matrix4| Ok(m.neg())),
+        _ => Err(Refusal::Order),
+    })
 }

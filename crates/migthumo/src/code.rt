@@ -1,24 +1,29 @@
-// The number that is answered for a cause: its number and its place (document 02, No. 1, 'Say column or row') as one, by the boundary's own rule.
+// The number that is answered: document 02, No. 1, 'Say column or row', has a number and a place; the boundary's own rule makes them one.
 ghost use Rattle.std.specs.Prelude.{◌≡◌};
-ghost use Rattle.vector.specs.Refusals.{means};
+ghost use Rattle.vector.specs.Refusals.{means, outcome};
 ghost use Rattle.component.specs.Fault.{means as fault_means};
-ghost use Rattle.migthumo.specs.Entries.{code_of};
+ghost use Rattle.migthumo.specs.Entries.{code, code_of};
 
 use component::Fault;
-use vector::{Place, Placed, Refusal};
+use vector::{Place, Refusal};
+
+// 0 where it is done, else the number of the cause.
+pub(crate) fn answered(answer: Result<(), Refusal>) -> u32
+    ensures { result ≡ code (outcome answer) }
+{
+    match answer {
+        Ok(()) => 0,
+        Err(cause) => of_cause(cause),
+    }
+}
 
 // The cause's number, and 256 more where the second place is at fault.
-pub(crate) fn of_cause(cause: Refusal) -> u32
+fn of_cause(cause: Refusal) -> u32
     ensures { result ≡ code_of (means cause) }
 {
-    let number = cause.number();
-    let placed = cause.place();
-    match placed {
-        Placed::Nowhere => number,
-        Placed::At(place) => match place {
-            Place::First => number,
-            Place::Second => number + 256,
-        },
+    match cause.place() {
+        Some(Place::Second) => cause.number() + 256,
+        _ => cause.number(),
     }
 }
 

@@ -1,29 +1,17 @@
 // Order 4 swaps of a matrix that is lent.
-ghost use Rattle.std.specs.Prelude.{◌≡◌};
-ghost use Rattle.matrix.specs.InPlace.{swapped_outcome};
 ghost use Rattle.matrix.specs.Places.{swap_rows4, swap_columns4, swap_elements4};
-ghost use Rattle.migthumo.specs.Entries.{code, Answers};
+ghost use Rattle.migthumo.specs.Entries.{Answers};
 ghost use Rattle.migthumo.specs.Flat.{column_at, row_at};
 
 use crate::code;
-use matrix::{Column, Matrix4, Row, Swapped};
-
-// The number that stands for the answer of a swap in place.
-pub(crate) fn said(answer: Swapped) -> u32
-    ensures { result ≡ code (swapped_outcome answer) }
-{
-    match answer {
-        Swapped::Done => 0,
-        Swapped::Refused(cause) => code::of_cause(cause),
-    }
-}
+use matrix::{Column, Matrix4, Row};
 
 // Rows a and b exchanged; refusal 12 unless both are below 4.
 #[unsafe(no_mangle)]
 pub extern "C" fn migthumo_swap_rows_mut(m: &mut Matrix4, a: usize, b: usize) -> u32
     ensures { Answers result m.old m.new (swap_rows4 m.old (row_at a) (row_at b)) }
 {
-    said(m.swap_rows_mut(Row(a), Row(b)))
+    code::answered(m.swap_rows_mut(Row(a), Row(b)))
 }
 
 // Columns a and b exchanged; refusal 11 unless both are below 4.
@@ -31,7 +19,7 @@ pub extern "C" fn migthumo_swap_rows_mut(m: &mut Matrix4, a: usize, b: usize) ->
 pub extern "C" fn migthumo_swap_columns_mut(m: &mut Matrix4, a: usize, b: usize) -> u32
     ensures { Answers result m.old m.new (swap_columns4 m.old (column_at a) (column_at b)) }
 {
-    said(m.swap_columns_mut(Column(a), Column(b)))
+    code::answered(m.swap_columns_mut(Column(a), Column(b)))
 }
 
 // The entries at two places, column first, exchanged; refusal 11 or 12 unless all four numbers are below 4.
@@ -45,5 +33,5 @@ pub extern "C" fn migthumo_swap_elements_mut(
 ) -> u32
     ensures { Answers result m.old m.new (swap_elements4 m.old (column_at ac) (row_at ar) (column_at bc) (row_at br)) }
 {
-    said(m.swap_elements_mut(Column(ac), Row(ar), Column(bc), Row(br)))
+    code::answered(m.swap_elements_mut(Column(ac), Row(ar), Column(bc), Row(br)))
 }

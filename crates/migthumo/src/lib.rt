@@ -4,9 +4,8 @@
 #![tactic(auto)]
 
 pub mod arithmetic;
-mod check;
 mod code;
-pub mod components;
+mod entry;
 pub mod in_place;
 pub mod inverse;
 mod load;

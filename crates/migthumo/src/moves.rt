@@ -1,22 +1,9 @@
 // Moves of many vectors or points by one flat matrix.
-ghost use Rattle.std.specs.Prelude.{◌≡◌};
 ghost use Rattle.bulk.specs.Moves.{move_vectors, move_points};
-ghost use Rattle.bulk.specs.Refusals.{moved_outcome};
-ghost use Rattle.migthumo.specs.Entries.{code, Answers};
+ghost use Rattle.migthumo.specs.Entries.{Answers};
 
 use crate::code;
 use bulk;
-use bulk::Moved;
-
-// The number that stands for the answer of a bulk move.
-fn said(answer: Moved) -> u32
-    ensures { result ≡ code (moved_outcome answer) }
-{
-    match answer {
-        Moved::Done => 0,
-        Moved::Refused(cause) => code::of_cause(cause),
-    }
-}
 
 // The matrix times every vector; the output is as long as the vectors.
 #[unsafe(no_mangle)]
@@ -28,7 +15,7 @@ pub extern "C" fn migthumo_move_vectors(
 ) -> u32
     ensures { Answers result out.old out.new (move_vectors order m.now vectors.now out.old) }
 {
-    said(bulk::move_vectors(order, m, vectors, out))
+    code::answered(bulk::move_vectors(order, m, vectors, out))
 }
 
 // The matrix times every point extended by 1, without the last coordinate; the output is as long as the points.
@@ -41,5 +28,5 @@ pub extern "C" fn migthumo_move_points(
 ) -> u32
     ensures { Answers result out.old out.new (move_points order m.now points.now out.old) }
 {
-    said(bulk::move_points(order, m, points, out))
+    code::answered(bulk::move_points(order, m, points, out))
 }

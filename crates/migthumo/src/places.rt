@@ -6,24 +6,21 @@ ghost use Rattle.matrix.specs.declared.places.Row.{Row};
 ghost use Rattle.migthumo.specs.Flat.{column_at, row_at};
 ghost use Rattle.migthumo.specs.Boundary.{row, diagonal, transpose, swap_rows, swap_columns, swap_elements};
 
-use crate::{check, load, store};
-use matrix::{Column, Matrix2Answer, Matrix3Answer, Matrix4Answer, Row};
-use vector::{Vector2Answer, Vector3Answer, Vector4Answer};
+use crate::{code, entry};
+use matrix::{Column, Matrix2, Matrix3, Matrix4, Row};
+use vector::Refusal;
 
 // Row r; refusal 12, first, unless r is below the order.
 #[unsafe(no_mangle)]
 pub extern "C" fn migthumo_row(order: usize, r: usize, m: &[f64], out: &mut [f64]) -> u32
     ensures { Answers result out.old out.new (row order (row_at r) m.now (length out.old)) }
 {
-    let refusal = check::one(order, m.len(), 1, out.len());
-    if refusal != 0 {
-        return refusal;
-    }
-    match order {
-        2 => store::vector2(load::matrix2(m).row(Row(r)), out),
-        3 => store::vector3(load::matrix3(m).row(Row(r)), out),
-        _ => store::vector4(load::matrix4(m).row(Row(r)), out),
-    }
+    code::answered(match order {
+        2 => entry::of_one(m, out, |m: Matrix2| m.row(Row(r))),
+        3 => entry::of_one(m, out, |m: Matrix3| m.row(Row(r))),
+        4 => entry::of_one(m, out, |m: Matrix4| m.row(Row(r))),
+        _ => Err(Refusal::Order),
+    })
 }
 
 // The entries m[i][i].
@@ -31,15 +28,12 @@ pub extern "C" fn migthumo_row(order: usize, r: usize, m: &[f64], out: &mut [f64
 pub extern "C" fn migthumo_diagonal(order: usize, m: &[f64], out: &mut [f64]) -> u32
     ensures { Answers result out.old out.new (diagonal order m.now (length out.old)) }
 {
-    let refusal = check::one(order, m.len(), 1, out.len());
-    if refusal != 0 {
-        return refusal;
-    }
-    match order {
-        2 => store::vector2(Vector2Answer::Given(load::matrix2(m).diagonal()), out),
-        3 => store::vector3(Vector3Answer::Given(load::matrix3(m).diagonal()), out),
-        _ => store::vector4(Vector4Answer::Given(load::matrix4(m).diagonal()), out),
-    }
+    code::answered(match order {
+        2 => entry::of_one(m, out, |m: Matrix2| Ok(m.diagonal())),
+        3 => entry::of_one(m, out, |m: Matrix3| Ok(m.diagonal())),
+        4 => entry::of_one(m, out, |m: Matrix4| Ok(m.diagonal())),
+        _ => Err(Refusal::Order),
+    })
 }
 
 // Columns as rows.
@@ -47,15 +41,12 @@ pub extern "C" fn migthumo_diagonal(order: usize, m: &[f64], out: &mut [f64]) ->
 pub extern "C" fn migthumo_transpose(order: usize, m: &[f64], out: &mut [f64]) -> u32
     ensures { Answers result out.old out.new (transpose order m.now (length out.old)) }
 {
-    let refusal = check::one(order, m.len(), 2, out.len());
-    if refusal != 0 {
-        return refusal;
-    }
-    match order {
-        2 => store::matrix2(Matrix2Answer::Given(load::matrix2(m).transpose()), out),
-        3 => store::matrix3(Matrix3Answer::Given(load::matrix3(m).transpose()), out),
-        _ => store::matrix4(Matrix4Answer::Given(load::matrix4(m).transpose()), out),
-    }
+    code::answered(match order {
+        2 => entry::of_one(m, out, |m: Matrix2| Ok(m.transpose())),
+        3 => entry::of_one(m, out, |m: Matrix3| Ok(m.transpose())),
+        4 => entry::of_one(m, out, |m: Matrix4| Ok(m.transpose())),
+        _ => Err(Refusal::Order),
+    })
 }
 
 // Rows a and b exchanged; refusal 12 unless both are below the order.
@@ -69,15 +60,12 @@ pub extern "C" fn migthumo_swap_rows(
 ) -> u32
     ensures { Answers result out.old out.new (swap_rows order (row_at a) (row_at b) m.now (length out.old)) }
 {
-    let refusal = check::one(order, m.len(), 2, out.len());
-    if refusal != 0 {
-        return refusal;
-    }
-    match order {
-        2 => store::matrix2(load::matrix2(m).swap_rows(Row(a), Row(b)), out),
-        3 => store::matrix3(load::matrix3(m).swap_rows(Row(a), Row(b)), out),
-        _ => store::matrix4(load::matrix4(m).swap_rows(Row(a), Row(b)), out),
-    }
+    code::answered(match order {
+        2 => entry::of_one(m, out, |m: Matrix2| m.swap_rows(Row(a), Row(b))),
+        3 => entry::of_one(m, out, |m: Matrix3| m.swap_rows(Row(a), Row(b))),
+        4 => entry::of_one(m, out, |m: Matrix4| m.swap_rows(Row(a), Row(b))),
+        _ => Err(Refusal::Order),
+    })
 }
 
 // Columns a and b exchanged; refusal 11 unless both are below the order.
@@ -91,15 +79,12 @@ pub extern "C" fn migthumo_swap_columns(
 ) -> u32
     ensures { Answers result out.old out.new (swap_columns order (column_at a) (column_at b) m.now (length out.old)) }
 {
-    let refusal = check::one(order, m.len(), 2, out.len());
-    if refusal != 0 {
-        return refusal;
-    }
-    match order {
-        2 => store::matrix2(load::matrix2(m).swap_columns(Column(a), Column(b)), out),
-        3 => store::matrix3(load::matrix3(m).swap_columns(Column(a), Column(b)), out),
-        _ => store::matrix4(load::matrix4(m).swap_columns(Column(a), Column(b)), out),
-    }
+    code::answered(match order {
+        2 => entry::of_one(m, out, |m: Matrix2| m.swap_columns(Column(a), Column(b))),
+        3 => entry::of_one(m, out, |m: Matrix3| m.swap_columns(Column(a), Column(b))),
+        4 => entry::of_one(m, out, |m: Matrix4| m.swap_columns(Column(a), Column(b))),
+        _ => Err(Refusal::Order),
+    })
 }
 
 // The entries at two places, column first, exchanged; refusal 11 or 12 unless all four numbers are below the order.
@@ -115,22 +100,10 @@ pub extern "C" fn migthumo_swap_elements(
 ) -> u32
     ensures { Answers result out.old out.new (swap_elements order (column_at ac) (row_at ar) (column_at bc) (row_at br) m.now (length out.old)) }
 {
-    let refusal = check::one(order, m.len(), 2, out.len());
-    if refusal != 0 {
-        return refusal;
-    }
-    match order {
-        2 => store::matrix2(
-            load::matrix2(m).swap_elements(Column(ac), Row(ar), Column(bc), Row(br)),
-            out,
-        ),
-        3 => store::matrix3(
-            load::matrix3(m).swap_elements(Column(ac), Row(ar), Column(bc), Row(br)),
-            out,
-        ),
-        _ => store::matrix4(
-            load::matrix4(m).swap_elements(Column(ac), Row(ar), Column(bc), Row(br)),
-            out,
-        ),
-    }
+    code::answered(match order {
+        2 => entry::of_one(m, out, |m: Matrix2| m.swap_elements(Column(ac), Row(ar), Column(bc), Row(br))),
+        3 => entry::of_one(m, out, |m: Matrix3| m.swap_elements(Column(ac), Row(ar), Column(bc), Row(br))),
+        4 => entry::of_one(m, out, |m: Matrix4| m.swap_elements(Column(ac), Row(ar), Column(bc), Row(br))),
+        _ => Err(Refusal::Order),
+    })
 }

@@ -4,8 +4,8 @@ ghost use Rattle.vector.specs.Vectors.{vector3};
 ghost use Rattle.migthumo.specs.Entries.{Answers};
 ghost use Rattle.migthumo.specs.Boundary.{from_angle, from_angle_x, from_angle_y, from_angle_z, from_axis_angle};
 
-use crate::{check, store};
-use matrix::{Matrix2, Matrix2Answer, Matrix3, Matrix3Answer, Matrix4, Matrix4Answer};
+use crate::{code, entry};
+use matrix::{Matrix2, Matrix3, Matrix4};
 use vector::{Refusal, Vector3};
 
 // A rotation of the plane: order 2.
@@ -13,10 +13,7 @@ use vector::{Refusal, Vector3};
 pub extern "C" fn migthumo_from_angle(s: f64, c: f64, out: &mut [f64]) -> u32
     ensures { Answers result out.old out.new (from_angle s c (length out.old)) }
 {
-    if out.len() != 4 {
-        return Refusal::OutputLength.number();
-    }
-    store::matrix2(Matrix2Answer::Given(Matrix2::from_angle(s, c)), out)
+    code::answered(entry::of_none(out, || Ok(Matrix2::from_angle(s, c))))
 }
 
 // A rotation around the x axis: orders 3 and 4.
@@ -24,14 +21,11 @@ pub extern "C" fn migthumo_from_angle(s: f64, c: f64, out: &mut [f64]) -> u32
 pub extern "C" fn migthumo_from_angle_x(order: usize, s: f64, c: f64, out: &mut [f64]) -> u32
     ensures { Answers result out.old out.new (from_angle_x order s c (length out.old)) }
 {
-    let refusal = check::rotation(order, out.len());
-    if refusal != 0 {
-        return refusal;
-    }
-    match order {
-        3 => store::matrix3(Matrix3Answer::Given(Matrix3::from_angle_x(s, c)), out),
-        _ => store::matrix4(Matrix4Answer::Given(Matrix4::from_angle_x(s, c)), out),
-    }
+    code::answered(match order {
+        3 => entry::of_none(out, || Ok(Matrix3::from_angle_x(s, c))),
+        4 => entry::of_none(out, || Ok(Matrix4::from_angle_x(s, c))),
+        _ => Err(Refusal::Order),
+    })
 }
 
 // A rotation around the y axis: orders 3 and 4.
@@ -39,14 +33,11 @@ pub extern "C" fn migthumo_from_angle_x(order: usize, s: f64, c: f64, out: &mut 
 pub extern "C" fn migthumo_from_angle_y(order: usize, s: f64, c: f64, out: &mut [f64]) -> u32
     ensures { Answers result out.old out.new (from_angle_y order s c (length out.old)) }
 {
-    let refusal = check::rotation(order, out.len());
-    if refusal != 0 {
-        return refusal;
-    }
-    match order {
-        3 => store::matrix3(Matrix3Answer::Given(Matrix3::from_angle_y(s, c)), out),
-        _ => store::matrix4(Matrix4Answer::Given(Matrix4::from_angle_y(s, c)), out),
-    }
+    code::answered(match order {
+        3 => entry::of_none(out, || Ok(Matrix3::from_angle_y(s, c))),
+        4 => entry::of_none(out, || Ok(Matrix4::from_angle_y(s, c))),
+        _ => Err(Refusal::Order),
+    })
 }
 
 // A rotation around the z axis: orders 3 and 4.
@@ -54,14 +45,11 @@ pub extern "C" fn migthumo_from_angle_y(order: usize, s: f64, c: f64, out: &mut 
 pub extern "C" fn migthumo_from_angle_z(order: usize, s: f64, c: f64, out: &mut [f64]) -> u32
     ensures { Answers result out.old out.new (from_angle_z order s c (length out.old)) }
 {
-    let refusal = check::rotation(order, out.len());
-    if refusal != 0 {
-        return refusal;
-    }
-    match order {
-        3 => store::matrix3(Matrix3Answer::Given(Matrix3::from_angle_z(s, c)), out),
-        _ => store::matrix4(Matrix4Answer::Given(Matrix4::from_angle_z(s, c)), out),
-    }
+    code::answered(match order {
+        3 => entry::of_none(out, || Ok(Matrix3::from_angle_z(s, c))),
+        4 => entry::of_none(out, || Ok(Matrix4::from_angle_z(s, c))),
+        _ => Err(Refusal::Order),
+    })
 }
 
 // A rotation around the axis (x, y, z), which is not checked for length: orders 3 and 4.
@@ -77,18 +65,9 @@ pub extern "C" fn migthumo_from_axis_angle(
 ) -> u32
     ensures { Answers result out.old out.new (from_axis_angle order (vector3 x y z) s c (length out.old)) }
 {
-    let refusal = check::rotation(order, out.len());
-    if refusal != 0 {
-        return refusal;
-    }
-    match order {
-        3 => store::matrix3(
-            Matrix3Answer::Given(Matrix3::from_axis_angle(Vector3::new(x, y, z), s, c)),
-            out,
-        ),
-        _ => store::matrix4(
-            Matrix4Answer::Given(Matrix4::from_axis_angle(Vector3::new(x, y, z), s, c)),
-            out,
-        ),
-    }
+    code::answered(match order {
+        3 => entry::of_none(out, || Ok(Matrix3::from_axis_angle(Vector3::new(x, y, z), s, c))),
+        4 => entry::of_none(out, || Ok(Matrix4::from_axis_angle(Vector3::new(x, y, z), s, c))),
+        _ => Err(Refusal::Order),
+    })
 }

@@ -3,23 +3,22 @@ ghost use Rattle.std.specs.Prelude.{length};
 ghost use Rattle.migthumo.specs.Entries.{Answers};
 ghost use Rattle.migthumo.specs.Boundary.{signed_sum, undoable};
 
-use crate::{check, load, store};
+use crate::{code, entry};
 use engine;
+use matrix::{Matrix2, Matrix3, Matrix4};
+use vector::Refusal;
 
 // The signed sum over all column orders, into an output of one whole number.
 #[unsafe(no_mangle)]
 pub extern "C" fn migthumo_signed_sum(order: usize, m: &[f64], out: &mut [i64]) -> u32
     ensures { Answers result out.old out.new (signed_sum order m.now (length out.old)) }
 {
-    let refusal = check::one(order, m.len(), 0, out.len());
-    if refusal != 0 {
-        return refusal;
-    }
-    match order {
-        2 => store::whole(engine::signed_sum2(load::matrix2(m)), out),
-        3 => store::whole(engine::signed_sum3(load::matrix3(m)), out),
-        _ => store::whole(engine::signed_sum4(load::matrix4(m)), out),
-    }
+    code::answered(match order {
+        2 => entry::of_one(m, out, |m: Matrix2| engine::signed_sum2(m)),
+        3 => entry::of_one(m, out, |m: Matrix3| engine::signed_sum3(m)),
+        4 => entry::of_one(m, out, |m: Matrix4| engine::signed_sum4(m)),
+        _ => Err(Refusal::Order),
+    })
 }
 
 // Whether the sum is undoable, 1 or 0, into an output of one byte.
@@ -27,13 +26,10 @@ pub extern "C" fn migthumo_signed_sum(order: usize, m: &[f64], out: &mut [i64]) 
 pub extern "C" fn migthumo_undoable(order: usize, m: &[f64], out: &mut [u8]) -> u32
     ensures { Answers result out.old out.new (undoable order m.now (length out.old)) }
 {
-    let refusal = check::one(order, m.len(), 0, out.len());
-    if refusal != 0 {
-        return refusal;
-    }
-    match order {
-        2 => store::verdict(engine::undoable2(load::matrix2(m)), out),
-        3 => store::verdict(engine::undoable3(load::matrix3(m)), out),
-        _ => store::verdict(engine::undoable4(load::matrix4(m)), out),
-    }
+    code::answered(match order {
+        2 => entry::of_one(m, out, |m: Matrix2| engine::undoable2(m)),
+        3 => entry::of_one(m, out, |m: Matrix3| engine::undoable3(m)),
+        4 => entry::of_one(m, out, |m: Matrix4| engine::undoable4(m)),
+        _ => Err(Refusal::Order),
+    })
 }

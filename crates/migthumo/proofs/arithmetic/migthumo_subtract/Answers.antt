@@ -1,68 +1,16 @@
 -- Each arm is the one law of its order. Assumes nothing.
-use native.Mathlib.Omega.{arith}
-use Rattle.migthumo.proofs.Checks.{fitted, input, input2, output, fourth}
-use Rattle.migthumo.proofs.Entries.{stopped_two, two2, two3, two4}
+use Rattle.std.proofs.Common.{rules, arith}
+use Rattle.vector.specs.Refusals.{given}
+use Rattle.matrix.specs.Arithmetic.{sub2, sub3, sub4}
+use Rattle.migthumo.proofs.Entries.{two2, two3, two4, none2}
 use Rattle.migthumo.proofs.arithmetic.migthumo_subtract.Goals as goal
+use Rattle.migthumo.proofs.arithmetic.migthumo_subtract.Goals.{in-2, in-3, in-4, in_default}
 
-pub returns-then-refusal-ne0 : goal.returns-then-refusal-ne0
-returns-then-refusal-ne0 c = stopped_two _ _ _ _ _ _ _ _ c.two-refusal.ensures c.if-refusal-ne0.true
-
-pub matrix2-requires : goal.matrix2-requires
-matrix2-requires c =
-    let f = fitted _ _ _ _ _ _ c.two-refusal.ensures c.if-refusal-ne0.false in
-    input f 2 c.in-2.is
-
-pub matrix2-requires-in-2 : goal.matrix2-requires-in-2
-matrix2-requires-in-2 c =
-    let f = fitted _ _ _ _ _ _ c.two-refusal.ensures c.if-refusal-ne0.false in
-    input2 f 2 c.in-2.is
-
-pub matrix2-requires-in-2-2 : goal.matrix2-requires-in-2-2
-matrix2-requires-in-2-2 c =
-    let f = fitted _ _ _ _ _ _ c.two-refusal.ensures c.if-refusal-ne0.false in
-    output f 2 c.in-2.is
-
-pub matrix3-requires : goal.matrix3-requires
-matrix3-requires c =
-    let f = fitted _ _ _ _ _ _ c.two-refusal.ensures c.if-refusal-ne0.false in
-    input f 3 c.in-3.is
-
-pub matrix3-requires-in-3 : goal.matrix3-requires-in-3
-matrix3-requires-in-3 c =
-    let f = fitted _ _ _ _ _ _ c.two-refusal.ensures c.if-refusal-ne0.false in
-    input2 f 3 c.in-3.is
-
-pub matrix3-requires-in-3-2 : goal.matrix3-requires-in-3-2
-matrix3-requires-in-3-2 c =
-    let f = fitted _ _ _ _ _ _ c.two-refusal.ensures c.if-refusal-ne0.false in
-    output f 3 c.in-3.is
-
-pub matrix4-requires : goal.matrix4-requires
-matrix4-requires c =
-    let f = fitted _ _ _ _ _ _ c.two-refusal.ensures c.if-refusal-ne0.false in
-    input f 4 (fourth f (omega arith) (λ e. omega arith) (λ e. omega arith))
-
-pub matrix4-requires-in_default : goal.matrix4-requires-in_default
-matrix4-requires-in_default c =
-    let f = fitted _ _ _ _ _ _ c.two-refusal.ensures c.if-refusal-ne0.false in
-    input2 f 4 (fourth f (omega arith) (λ e. omega arith) (λ e. omega arith))
-
-pub matrix4-requires-in_default-2 : goal.matrix4-requires-in_default-2
-matrix4-requires-in_default-2 c =
-    let f = fitted _ _ _ _ _ _ c.two-refusal.ensures c.if-refusal-ne0.false in
-    output f 4 (fourth f (omega arith) (λ e. omega arith) (λ e. omega arith))
-
-pub returns-in-2 : goal.returns-in-2
-returns-in-2 c =
-    let f = fitted _ _ _ _ _ _ c.two-refusal.ensures c.if-refusal-ne0.false in
-    two2 c.matrix2-in-2-2.ensures _ _ f _ _ _ c.in-2.is c.matrix2.ensures c.matrix2-in-2.ensures (rw c.sub.ensures)
-
-pub returns-in-3 : goal.returns-in-3
-returns-in-3 c =
-    let f = fitted _ _ _ _ _ _ c.two-refusal.ensures c.if-refusal-ne0.false in
-    two3 c.matrix3-in-3-2.ensures _ _ f _ _ _ c.in-3.is c.matrix3.ensures c.matrix3-in-3.ensures (rw c.sub-in-3.ensures)
-
-pub returns-in_default : goal.returns-in_default
-returns-in_default c =
-    let f = fitted _ _ _ _ _ _ c.two-refusal.ensures c.if-refusal-ne0.false in
-    two4 c.matrix4-in_default-2.ensures _ _ f _ _ _ (fourth f (omega arith) (λ e. omega arith) (λ e. omega arith)) c.matrix4.ensures c.matrix4-in_default.ensures (rw c.sub-in_default.ensures)
+pub returns : goal.returns
+returns c =
+    let is = c.answered.ensures in
+    elim c.match-order.branch
+    [ in-2 w ↦ two2 is w.answered-is w.out-is _ _ _ _ _ _ w.in-2.is (w.of_two.ensures (λ x y. given (sub2 x y)) (λ x y r p. search rules))
+    | in-3 w ↦ two3 is w.answered-is w.out-is _ _ _ _ _ _ w.in-3.is (w.of_two-in-3.ensures (λ x y. given (sub3 x y)) (λ x y r p. search rules))
+    | in-4 w ↦ two4 is w.answered-is w.out-is _ _ _ _ _ _ w.in-4.is (w.of_two-in-4.ensures (λ x y. given (sub4 x y)) (λ x y r p. search rules))
+    | in_default w ↦ none2 is w.answered-is w.out-is _ _ _ _ _ _ (λ e. omega arith) (λ e. omega arith) (λ e. omega arith) ]

@@ -1,7 +1,0 @@
--- The numbers are read one by one. Assumes nothing.
-use mathlib.Core.Path.{◌∙◌}
-use Rattle.migthumo.proofs.Flat.{read_flat4}
-use Rattle.migthumo.proofs.load.matrix4.Goals as goal
-
-pub returns : goal.returns
-returns c = c.from_array.ensures ∙ read_flat4 c.args.s.now
