@@ -3,15 +3,12 @@
 use mathlib.Core.Path.{◌≡◌, refl, ap}
 use mathlib.Core.Bool.{cond}
 use lib.Dec.{eqb}
+use Rattle.std.specs.Prelude.{Result, Ok, Err}
 use Rattle.vector.specs.Refusals.{Outcome, given, refused, Meant, bare, placed}
 use Rattle.vector.proofs.Answers.{one_meaning}
-use Rattle.component.specs.declared.Component.{Component}
-use Rattle.component.specs.declared.ComponentAnswer.{ComponentAnswer}
-use Rattle.component.specs.declared.ComponentAnswer.TheVariants.{Given, Refused}
 use Rattle.component.specs.declared.fault.Fault.{Fault}
 use Rattle.component.specs.declared.fault.Fault.TheVariants.{RecordEnds, ScaleFlags, PointNumbers}
-use Rattle.component.specs.Fault.{means}
-use Rattle.component.specs.Record.{component_outcome}
+use Rattle.component.specs.Fault.{means, outcome}
 
 -- the cause that has a meaning; none has a place
 abbrev pub fault : Meant → Fault
@@ -25,13 +22,13 @@ fault_means ScaleFlags = refl
 fault_means PointNumbers = refl
 
 -- the answer of an outcome
-abbrev pub component_of : Outcome Component → ComponentAnswer
-component_of (given c) = Given c
-component_of (refused why) = Refused (fault why)
+abbrev answer_of : {A : Type 0} → Outcome A → Result A Fault
+answer_of (given a) = Ok a
+answer_of (refused why) = Err (fault why)
 
--- an answer with a component is fixed by what it means
-pub component_one : (a b : ComponentAnswer) → component_outcome a ≡ component_outcome b → a ≡ b
-component_one = one_meaning component_outcome component_of there where
-  there : (a : ComponentAnswer) → component_of (component_outcome a) ≡ a
-  there (Given c) = refl
-  there (Refused f) = ap Refused (fault_means f)
+-- an answer is fixed by what it means
+pub outcome_one : {A : Type 0} (a b : Result A Fault) → outcome a ≡ outcome b → a ≡ b
+outcome_one = one_meaning outcome answer_of there where
+  there : {A : Type 0} (a : Result A Fault) → answer_of (outcome a) ≡ a
+  there (Ok a) = refl
+  there (Err f) = ap Err (fault_means f)

@@ -1,9 +1,8 @@
+pub mod Bits
 pub mod Signs
-pub mod Room
-pub mod Cases
-pub mod Order
 pub mod Given
 pub mod Exact
+pub mod Same
 pub mod Own
 pub mod Answers
 pub mod Unique

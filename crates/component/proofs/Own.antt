@@ -1,81 +1,32 @@
 -- A record's own bytes decide what is read: wherever they stand, and whatever follows them.
 -- Assumes nothing.
 use mathlib.Core.Path.{◌≡◌, refl, sym, ap, ◌∙◌}
-use mathlib.Core.Bool.{Bool, true, false, cond}
+use mathlib.Core.Bool.{Bool, true, false}
 use mathlib.Core.List.{List, ◌++◌}
 use mathlib.Core.Logic.{◌⊎◌, inl, inr}
-use Prim.Native.Nat.{ℕ, ◌+◌, ◌*◌, ◌-◌, ◌≤◌, ◌<◌}
+use Prim.Native.Nat.{ℕ, ◌+◌, ◌-◌, ◌≤◌, ◌<◌}
 use native.Mathlib.Omega.{arith}
-use lib.Dec.{leb, eqb}
+use lib.Dec.{leb}
 use lib.ListN.{length, get_or, take, drop, length-take, length-drop, length-append, get_or-append}
 use lib.Seq.{get_or-take, get_or-drop, length-take-le}
-use borrow.Author.Tests.{le-leb, leb-true, eqb-true}
+use borrow.Author.Tests.{le-leb, leb-true}
 use Rattle.vector.specs.Refusals.{Outcome, given, refused, after}
 use Rattle.component.specs.Fault.{faulted}
 use Rattle.component.specs.declared.fault.Fault.TheVariants.{RecordEnds}
 use Rattle.component.specs.declared.Component.{Component}
-use Rattle.component.specs.Bytes.{byte, word, twos_complement}
-use Rattle.component.specs.Record.{bit, offset_size, offsets_from, scales_from, size, bytes_hold, one_scale_flag, offsets_are_values, short, tiny, offsets_at, scales_at, component_at, read_component}
+use Rattle.component.specs.Bytes.{byte, word}
+use Rattle.component.specs.Record.{size, bytes_hold, one_scale_flag, offsets_are_values, component_at, read_component}
 use Rattle.component.specs.Claims.{own_bytes, moved_to, Alike, OwnBytesDecide}
 use Rattle.component.proofs.Given.{Given, when_given}
+use Rattle.component.proofs.Same.{word_same, scales_same, offsets_same}
 
--- alike on either side of a test
-either_same : {A : Type 0} (b : Bool) {x y x' y' : A} → (b ≡ true → x ≡ x') → (b ≡ false → y ≡ y') → cond b x y ≡ cond b x' y'
-either_same true p q = p refl
-either_same false p q = q refl
-
--- ---- bytes that agree
-
--- the n bytes at `to` are those at `at`
+-- where the n bytes at `to` are those at `at`, the component is the same at its own place
 module _ (bytes others : List ℕ) (at to n : ℕ) (same : (k : ℕ) → k < n → byte others (to + k) ≡ byte bytes (at + k)) where
-  byte_same : (k i j : ℕ) → i ≡ at + k → j ≡ to + k → k < n → byte others j ≡ byte bytes i
-  byte_same k i j p q h = rw (p, q) (same k h)
-
-  word_same : (k i j : ℕ) → i ≡ at + k → j ≡ to + k → k + 2 ≤ n → word others j ≡ word bytes i
-  word_same k i j p q h = rw (byte_same k i j p q (omega arith), byte_same (k + 1) (i + 1) (j + 1) (omega arith) (omega arith) (omega arith))
-
-  short_same : (k i j : ℕ) → i ≡ at + k → j ≡ to + k → k + 2 ≤ n → short others j ≡ short bytes i
-  short_same k i j p q h = ap (twos_complement 16) (word_same k i j p q h)
-
-  tiny_same : (k i j : ℕ) → i ≡ at + k → j ≡ to + k → k < n → tiny others j ≡ tiny bytes i
-  tiny_same k i j p q h = ap (twos_complement 8) (byte_same k i j p q h)
-
-  -- the offsets, by their width
-  offsets_same : (flags : ℕ) → 4 + 2 * offset_size flags ≤ n → offsets_at others (offsets_from to) flags ≡ offsets_at bytes (offsets_from at) flags
-  unfolding offsets_at
-  offsets_same flags h =
-      either_same (eqb (bit flags 0x0001) 1)
-      (λ e. let one = eqb-true (bit flags 0x0001) 1 e in
-      rw (short_same 4 (at + 4) (to + 4) refl refl (omega arith), short_same 6 (at + 4 + 2) (to + 4 + 2) (omega arith) (omega arith) (omega arith)))
-      (λ e. rw (tiny_same 4 (at + 4) (to + 4) refl refl (omega arith), tiny_same 5 (at + 4 + 1) (to + 4 + 1) (omega arith) (omega arith) (omega arith)))
-
-  -- the scale at a distance from the scales' place
-  scale_same : (flags d : ℕ) → 4 + 2 * offset_size flags + d + 2 ≤ n → short others (scales_from to flags + d) ≡ short bytes (scales_from at flags + d)
-  scale_same flags d h = short_same (4 + 2 * offset_size flags + d) (scales_from at flags + d) (scales_from to flags + d) (omega arith) (omega arith) h
-
-  -- the first of them
-  first_same : (flags : ℕ) → 4 + 2 * offset_size flags + 2 ≤ n → short others (scales_from to flags) ≡ short bytes (scales_from at flags)
-  first_same flags h = short_same (4 + 2 * offset_size flags) (scales_from at flags) (scales_from to flags) (omega arith) (omega arith) h
-
-  -- the scales, by their count
-  scales_same : (flags : ℕ) → size flags ≤ n → scales_at others (scales_from to flags) flags ≡ scales_at bytes (scales_from at flags) flags
-  unfolding scales_at
-  scales_same flags h =
-      either_same (eqb (bit flags 0x0008) 1)
-      (λ e. let one = eqb-true (bit flags 0x0008) 1 e in rw (first_same flags (omega arith)))
-      (λ _. either_same (eqb (bit flags 0x0040) 1)
-      (λ e. let two = eqb-true (bit flags 0x0040) 1 e in rw (first_same flags (omega arith), scale_same flags 2 (omega arith)))
-      (λ _. either_same (eqb (bit flags 0x0080) 1)
-      (λ e. let four = eqb-true (bit flags 0x0080) 1 e in
-      rw (first_same flags (omega arith), scale_same flags 2 (omega arith), scale_same flags 4 (omega arith), scale_same flags 6 (omega arith)))
-      (λ _. refl)))
-
-  -- and so the component, at its own place
   component_same : (flags : ℕ) → size flags ≤ n → component_at others to flags ≡ moved_to at to (component_at bytes at flags)
   unfolding component_at
   component_same flags h =
       let further : to + size flags ≡ to + (at + size flags - at) = omega arith in
-      rw (further, word_same 2 (at + 2) (to + 2) refl refl (omega arith), scales_same flags h, offsets_same flags (omega arith))
+      rw (further, word_same bytes others at to n same 2 (at + 2) (to + 2) refl refl (omega arith), scales_same bytes others at to n same flags h, offsets_same bytes others at to n same flags (omega arith))
 
 -- ---- reading
 

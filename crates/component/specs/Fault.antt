@@ -1,6 +1,7 @@
 -- Document 02, No. 2, 'Read component records': what each cause means that the bytes at a place give no component.
 -- A meaning is that of a refusal, vector/specs/Refusals.antt, with no place. Assumes nothing.
-use Rattle.vector.specs.Refusals.{Outcome, refused, Meant, bare}
+use Rattle.std.specs.Prelude.{Result, Ok, Err}
+use Rattle.vector.specs.Refusals.{Outcome, given, refused, Meant, bare}
 use Rattle.component.specs.declared.fault.Fault.{Fault}
 use Rattle.component.specs.declared.fault.Fault.TheVariants.{RecordEnds, ScaleFlags, PointNumbers}
 
@@ -13,3 +14,8 @@ means PointNumbers = bare 22
 -- refused for this cause
 abbrev pub faulted : {A : Type 0} → Fault → Outcome A
 faulted cause = refused (means cause)
+
+-- what an answer means, whatever it gives: the value of an Ok, or what the cause of an Err means
+abbrev pub outcome : {A : Type 0} → Result A Fault → Outcome A
+outcome (Ok a) = given a
+outcome (Err cause) = faulted cause

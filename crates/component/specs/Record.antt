@@ -11,10 +11,6 @@ use Rattle.component.specs.Bytes.{byte, word, twos_complement, f2dot14}
 use Rattle.component.specs.Fault.{faulted}
 use Rattle.component.specs.declared.fault.Fault.TheVariants.{RecordEnds, ScaleFlags, PointNumbers}
 use Rattle.component.specs.declared.Component.{Component}
-use Rattle.component.specs.declared.ComponentAnswer.{ComponentAnswer}
-use Rattle.component.specs.declared.ComponentAnswer.TheVariants as answer
-use Rattle.component.specs.declared.flags.FlagsAnswer.{FlagsAnswer}
-use Rattle.component.specs.declared.flags.FlagsAnswer.TheVariants as flags
 use Rattle.component.specs.declared.numbers.Offsets.{Offsets}
 use Rattle.component.specs.declared.numbers.Scales.{Scales}
 
@@ -119,13 +115,3 @@ read_component bytes at =
     (after (offsets_are_values flags)
     (after (bytes_hold bytes at (size flags))
     (given (component_at bytes at flags)))))
-
--- what an answer that gives a component means
-abbrev pub component_outcome : ComponentAnswer → Outcome Component
-component_outcome (answer.Given c) = given c
-component_outcome (answer.Refused cause) = faulted cause
-
--- what the answer to a record's first two bytes means: its flags
-abbrev pub flags_outcome : FlagsAnswer → Outcome ℕ
-flags_outcome (flags.Given f) = given f
-flags_outcome (flags.Refused cause) = faulted cause

@@ -1,58 +1,49 @@
 // Numbers as the bytes of a font have them: document 02, No. 2, 'Read component records'.
-ghost use Rattle.std.specs.Prelude.{◌≡◌, ◌+◌, ◌<◌, ◌≤◌, leb, length};
-ghost use Rattle.component.specs.Bytes.{byte, word, twos_complement, f2dot14 as bytes_f2dot14};
+ghost use Rattle.std.specs.Prelude.{◌≡◌, ◌+◌, ◌≤◌, MatchResult, drop, length};
+ghost use Rattle.vector.specs.Refusals.{given};
+ghost use Rattle.component.specs.Bytes.{word, twos_complement, f2dot14 as bytes_f2dot14};
+ghost use Rattle.component.specs.Fault.{faulted};
+ghost use Rattle.component.specs.Record.{bytes_hold};
 
-// Whether n bytes stand at the place; nothing is added to the place, so however large it is nothing wraps.
-pub(crate) fn hold(bytes: &[u8], at: usize, n: usize) -> bool
-    ensures { result ≡ leb (at + n) (length bytes.now) }
+use crate::fault::Fault;
+
+// The bytes from a place on, at least n of them, or refusal 20.
+#[tactic(auto, unfolding(crate::specs::Record::bytes_hold))]
+pub(crate) fn from(bytes: &[u8], at: usize, n: usize) -> Result<&[u8], Fault>
+    ensures { MatchResult result (λ rest. (rest.now ≡ drop at bytes.now) × (at + n ≤ length bytes.now) × (given tt ≡ bytes_hold bytes.now at n)) (λ cause. faulted cause ≡ bytes_hold bytes.now at n) }
 {
-    if bytes.len() < n {
-        false
-    } else {
-        at <= bytes.len() - n
+    match bytes.get(at..) {
+        Some(rest) if n <= rest.len() => Ok(rest),
+        _ => Err(Fault::RecordEnds),
     }
-}
-
-// A byte as a number of 16 bits.
-fn wide(b: u8) -> u16
-    ensures { (result ≡ b) × (result < 256) }
-{
-    b as u16
 }
 
 // The number of two bytes, the larger first.
-pub(crate) fn word_at(bytes: &[u8], i: usize) -> u16
-    requires { i + 2 ≤ length bytes.now }
-    ensures { result ≡ word bytes.now i }
+pub(crate) fn word(pair: [u8; 2]) -> u16
+    ensures { result ≡ word pair 0 }
 {
-    wide(bytes[i]) * 256 + wide(bytes[i + 1])
+    u16::from_be_bytes(pair)
 }
 
 // The signed number of two bytes, the larger first.
-pub(crate) fn short_at(bytes: &[u8], i: usize) -> i32
-    requires { i + 2 ≤ length bytes.now }
-    ensures { result ≡ twos_complement 16 (word bytes.now i) }
+#[tactic(auto, using(crate::proofs::Signs::signed16))]
+pub(crate) fn short(pair: [u8; 2]) -> i32
+    ensures { result ≡ twos_complement 16 (word pair 0) }
 {
-    let w = word_at(bytes, i);
-    if w < 32768 {
-        w as i32
-    } else {
-        w as i32 - 65536
-    }
+    i32::from(word(pair).cast_signed())
 }
 
 // The signed number of one byte.
-pub(crate) fn tiny_at(bytes: &[u8], i: usize) -> i32
-    requires { i < length bytes.now }
-    ensures { result ≡ twos_complement 8 (byte bytes.now i) }
+#[tactic(auto, using(crate::proofs::Signs::signed8))]
+pub(crate) fn tiny(byte: u8) -> i32
+    ensures { result ≡ twos_complement 8 byte }
 {
-    let b = wide(bytes[i]);
-    if b < 128 { b as i32 } else { b as i32 - 256 }
+    i32::from(byte.cast_signed())
 }
 
 // A number in F2Dot14: so many 16384ths.
 pub(crate) fn f2dot14(n: i32) -> f64
     ensures { result ≡ bytes_f2dot14 n }
 {
-    n as f64 / 16384.0
+    f64::from(n) / 16384.0
 }

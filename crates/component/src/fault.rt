@@ -4,7 +4,7 @@ ghost use Rattle.vector.specs.Refusals.{number_of};
 ghost use Rattle.component.specs.Fault.{means};
 
 // Why the bytes at a place give no component.
-#[derive(Clone, Copy)]
+#[derive(Clone, Copy, Debug, PartialEq, Eq)]
 pub enum Fault {
     // The bytes end inside the component record.
     RecordEnds,

@@ -1,58 +1,100 @@
 // What the flags of a component record say: document 02, No. 2, 'Read component records'.
-ghost use Rattle.std.specs.Prelude.{◌≡◌};
-ghost use Rattle.vector.specs.Refusals.{given, after};
-ghost use Rattle.component.specs.Bytes.{word};
-ghost use Rattle.component.specs.Record.{offset_size, scale_flags, scale_count, size as record_size};
-ghost use Rattle.component.specs.Record.{bytes_hold, one_scale_flag, flags_outcome};
+ghost use Rattle.std.specs.Prelude.{◌≡◌, eqb};
+ghost use Rattle.vector.specs.Refusals.{after};
+ghost use Rattle.component.specs.Fault.{outcome};
+ghost use Rattle.component.specs.Record.{bit, offset_size, scale_flags, scale_count, size as record_size};
+ghost use Rattle.component.specs.Record.{one_scale_flag, offsets_are_values};
 
-use crate::bytes::{hold, word_at};
 use crate::fault::Fault;
 
-// The flags of a record, or the cause of a refusal and no flags.
-#[derive(Clone, Copy)]
-pub(crate) enum FlagsAnswer {
-    Given(u16),
-    Refused(Fault),
-}
+// The flags of a record, as they stand in its first two bytes.
+#[derive(Clone, Copy, Debug, PartialEq, Eq)]
+pub(crate) struct Flags(pub(crate) u16);
 
-// How many bytes an offset takes: two with 0x0001, else one.
-pub(crate) fn offset_size(flags: u16) -> usize
-    ensures { result ≡ offset_size flags }
-{
-    1 + (flags / 0x0001 % 2) as usize
-}
-
-// How many of the scale flags are set.
-fn scale_flags(flags: u16) -> u16
-    ensures { result ≡ scale_flags flags }
-{
-    flags / 0x0008 % 2 + flags / 0x0040 % 2 + flags / 0x0080 % 2
-}
-
-// How many scales there are: one with 0x0008, two with 0x0040, four with 0x0080, else none.
-fn scale_count(flags: u16) -> usize
-    ensures { result ≡ scale_count flags }
-{
-    (flags / 0x0008 % 2 + 2 * (flags / 0x0040 % 2) + 4 * (flags / 0x0080 % 2)) as usize
-}
-
-// How many bytes the record takes.
-pub(crate) fn size(flags: u16) -> usize
-    ensures { result ≡ record_size flags }
-{
-    4 + 2 * offset_size(flags) + 2 * scale_count(flags)
-}
-
-// The flags of the record at a place: refusal 20 where the bytes end inside them, then 21.
-pub(crate) fn flags_at(bytes: &[u8], at: usize) -> FlagsAnswer
-    ensures { flags_outcome result ≡ after (bytes_hold bytes.now at 2) (after (one_scale_flag (word bytes.now at)) (given (word bytes.now at))) }
-{
-    if !hold(bytes, at, 2) {
-        return FlagsAnswer::Refused(Fault::RecordEnds);
+impl Flags {
+    // Whether the offsets are words, else bytes.
+    #[tactic(auto, using(crate::proofs::Bits::flag0))]
+    pub(crate) fn words(self) -> bool
+        ensures { result ≡ eqb (bit self.0 0x0001) 1 }
+    {
+        self.0 & 0x0001 != 0
     }
-    let flags = word_at(bytes, at);
-    if scale_flags(flags) > 1 {
-        return FlagsAnswer::Refused(Fault::ScaleFlags);
+
+    // Whether the offsets are values, else point numbers.
+    #[tactic(auto, using(crate::proofs::Bits::flag1))]
+    fn values(self) -> bool
+        ensures { result ≡ eqb (bit self.0 0x0002) 1 }
+    {
+        self.0 & 0x0002 != 0
     }
-    FlagsAnswer::Given(flags)
+
+    // Whether there is one scale, for both axes.
+    #[tactic(auto, using(crate::proofs::Bits::flag3))]
+    pub(crate) fn one_scale(self) -> bool
+        ensures { result ≡ eqb (bit self.0 0x0008) 1 }
+    {
+        self.0 & 0x0008 != 0
+    }
+
+    // Whether there are two scales, one for each axis.
+    #[tactic(auto, using(crate::proofs::Bits::flag6))]
+    pub(crate) fn two_scales(self) -> bool
+        ensures { result ≡ eqb (bit self.0 0x0040) 1 }
+    {
+        self.0 & 0x0040 != 0
+    }
+
+    // Whether there are four scales, the whole linear part.
+    #[tactic(auto, using(crate::proofs::Bits::flag7))]
+    pub(crate) fn four_scales(self) -> bool
+        ensures { result ≡ eqb (bit self.0 0x0080) 1 }
+    {
+        self.0 & 0x0080 != 0
+    }
+
+    // How many bytes an offset takes: two where it is a word, else one.
+    pub(crate) fn offset_size(self) -> usize
+        ensures { result ≡ offset_size self.0 }
+    {
+        1 + usize::from(self.words())
+    }
+
+    // How many of the scale flags are set.
+    fn scale_flags(self) -> usize
+        ensures { result ≡ scale_flags self.0 }
+    {
+        usize::from(self.one_scale())
+            + usize::from(self.two_scales())
+            + usize::from(self.four_scales())
+    }
+
+    // How many scales there are: one, two, four or none.
+    fn scale_count(self) -> usize
+        ensures { result ≡ scale_count self.0 }
+    {
+        usize::from(self.one_scale())
+            + 2 * usize::from(self.two_scales())
+            + 4 * usize::from(self.four_scales())
+    }
+
+    // How many bytes the record takes.
+    pub(crate) fn size(self) -> usize
+        ensures { result ≡ record_size self.0 }
+    {
+        4 + 2 * self.offset_size() + 2 * self.scale_count()
+    }
+
+    // Refusal 21 where more than one scale flag is set, then 22 where the offsets are point numbers.
+    #[tactic(auto, unfolding(crate::specs::Record::one_scale_flag, crate::specs::Record::offsets_are_values))]
+    pub(crate) fn check(self) -> Result<(), Fault>
+        ensures { outcome result ≡ after (one_scale_flag self.0) (offsets_are_values self.0) }
+    {
+        if self.scale_flags() > 1 {
+            return Err(Fault::ScaleFlags);
+        }
+        if !self.values() {
+            return Err(Fault::PointNumbers);
+        }
+        Ok(())
+    }
 }

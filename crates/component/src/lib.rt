@@ -6,18 +6,19 @@ mod bytes;
 pub mod fault;
 mod flags;
 pub mod numbers;
+mod record;
 
-ghost use Rattle.std.specs.Prelude.{◌≡◌, ◌+◌, ◌≤◌, length};
-ghost use Rattle.vector.specs.Refusals.{given, after};
-ghost use Rattle.component.specs.Record.{size, offsets_are_values, bytes_hold, component_at};
-ghost use Rattle.component.specs.Record.{component_outcome, read_component};
+ghost use Rattle.std.specs.Prelude.{◌≡◌};
+ghost use Rattle.component.specs.Fault.{outcome};
+ghost use Rattle.component.specs.Record.{read_component};
 
 pub use fault::Fault;
-use flags::FlagsAnswer;
+use flags::Flags;
 use matrix::Matrix3;
+use record::Record;
 
 // One component: which glyph is borrowed, and through which matrix.
-#[derive(Clone, Copy)]
+#[derive(Clone, Copy, Debug, PartialEq)]
 pub struct Component {
     // The flags as they stand in the record.
     pub flags: u16,
@@ -29,50 +30,20 @@ pub struct Component {
     pub matrix: Matrix3,
 }
 
-// What reading a component answers.
-#[derive(Clone, Copy)]
-pub enum ComponentAnswer {
-    Given(Component),
-    Refused(Fault),
-}
-
-// The component at a place, of a record with these flags that is all there.
-fn component_at(bytes: &[u8], at: usize, flags: u16) -> Component
-    requires { at + size flags ≤ length bytes.now }
-    ensures { result ≡ component_at bytes.now at flags }
-{
-    let offsets = at + 4;
-    let scales = offsets + 2 * flags::offset_size(flags);
-    Component {
-        flags,
-        index: bytes::word_at(bytes, at + 2),
-        after: at + flags::size(flags),
-        matrix: numbers::matrix_of(
-            numbers::scales_at(bytes, scales, flags),
-            numbers::offsets_at(bytes, offsets, flags),
-        ),
-    }
-}
-
-// The record at a place with these flags: refusal 22, then 20 where the bytes end inside the rest.
-fn record_at(bytes: &[u8], at: usize, flags: u16) -> ComponentAnswer
-    ensures { component_outcome result ≡ after (offsets_are_values flags) (after (bytes_hold bytes.now at (size flags)) (given (component_at bytes.now at flags))) }
-{
-    if flags / 0x0002 % 2 == 0 {
-        return ComponentAnswer::Refused(Fault::PointNumbers);
-    }
-    if !bytes::hold(bytes, at, flags::size(flags)) {
-        return ComponentAnswer::Refused(Fault::RecordEnds);
-    }
-    ComponentAnswer::Given(component_at(bytes, at, flags))
-}
-
 // The component at a place of the bytes: refusal 20 where they end inside the flags, 21, 22, then 20 where they end inside the rest.
-pub fn read(bytes: &[u8], at: usize) -> ComponentAnswer
-    ensures { component_outcome result ≡ read_component bytes.now at }
+#[tactic(auto, using(crate::proofs::Same::placed, crate::proofs::Same::first), unfolding(crate::specs::Record::read_component))]
+pub fn read(bytes: &[u8], at: usize) -> Result<Component, Fault>
+    ensures { outcome result ≡ read_component bytes.now at }
 {
-    match flags::flags_at(bytes, at) {
-        FlagsAnswer::Refused(cause) => ComponentAnswer::Refused(cause),
-        FlagsAnswer::Given(flags) => record_at(bytes, at, flags),
-    }
+    let rest = bytes::from(bytes, at, 2)?;
+    let flags = Flags(bytes::word([rest[0], rest[1]]));
+    flags.check()?;
+    let bytes = bytes::from(bytes, at, flags.size())?;
+    let record = Record { flags, bytes };
+    Ok(Component {
+        flags: flags.0,
+        index: record.index(),
+        after: at + flags.size(),
+        matrix: record.matrix(),
+    })
 }
