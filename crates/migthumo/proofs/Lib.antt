@@ -3,3 +3,5 @@ pub mod Left
 pub mod Told
 pub mod Entries
 pub mod Embeddings
+pub mod Unique
+pub mod TwoOutputs

@@ -5,6 +5,7 @@
 
 pub mod arithmetic;
 mod code;
+pub mod components;
 mod entry;
 pub mod in_place;
 pub mod inverse;
