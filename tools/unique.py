@@ -5,7 +5,7 @@ Usage: tools/unique.py [-q]
 
 The lines stand in proofs/Unique.antt of each library crate, and the gate proves them. A line has the name of its
 function, behind its type's where it is a method, as `matrix2_order`; where a definition has that name, the line has
-`_lem` at its end, as `move_vectors_lem`. The methods of a public trait have a line for each record. This script checks that none is missing. It fails where a public function has
+`_lem` at its end, as `move_vectors_lem`. The methods and the constants of a public trait have a line for each record. This script checks that none is missing. It fails where a public function has
 no line, or a line that speaks of another promise; where parameters are lent by `&mut` and the line leaves one of them
 out; where a public function has a `requires`, other than that its closure may be called; where it can't read a public function; and where it finds none at all, or no
 export.
@@ -118,7 +118,7 @@ def functions(crate):
 
 
 def traits(crates):
-    """Each public trait: its methods by name, with how many numbers the closure takes, or 0, and whether it asks more than that the closure may be called."""
+    """Each public trait: its methods and constants by name, with how many numbers the closure takes, or 0, and whether it asks more than that the closure may be called."""
     found = {}
     for path in (p for crate in crates for p in sorted(glob.glob(f"crates/{crate}/src/**/*.rt", recursive=True))):
         text = code(path)
@@ -139,11 +139,16 @@ def traits(crates):
                     sys.exit(f"{path}: can't read {m.group(1)}")
                 taken = len(parameters(m.group(2) or ""))
                 methods[m.group(1)] = (taken, asked != ["F.IsAlwaysCallable f"] * bool(taken))
+            # a constant promises what its ghost says
+            for name in re.findall(r"\bconst (\w+):", body):
+                if not re.search(rf"\bghost {name}:", body):
+                    sys.exit(f"{path}: {name} of {trait.group(1)} has no ghost")
+                methods[name] = (0, False)
     return found
 
 
 def implemented(crate, methods):
-    """Each method of a public trait at each record that has it: its place under proofs/, the name of its line, and what the trait says of it."""
+    """Each method and constant of a public trait at each record that has it: its place under proofs/, the name of its line, and what the trait says of it."""
     for path in sorted(glob.glob(f"crates/{crate}/src/**/*.rt", recursive=True)):
         module = [] if path.endswith("src/lib.rt") else path[len(f"crates/{crate}/src/") : -3].split("/")
         for trait, record in re.findall(r"\bimpl (\w+) for (\w+)", code(path)):

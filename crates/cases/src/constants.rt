@@ -1,7 +1,7 @@
 // Of the records' constants (document 01, 'Rules of the arithmetic') their orders, since the list has zero and identity; and the number
 // and the place of each cause of a refusal (document 01, 'The numbers a refusal carries', and document 02, No. 1, 'Say column or row').
 use crate::count::Count;
-use matrix::{Matrix2, Matrix3, Matrix4};
+use matrix::{Matrix2, Matrix3, Matrix4, SquareMatrix};
 use std::io;
 use vector::{Place, Placed, Refusal};
 
@@ -12,9 +12,9 @@ pub(crate) fn run(rt: &impl Print, c: Count) -> io::Result<Count> {
 
 // The order of each record.
 fn orders(rt: &impl Print, c: Count) -> io::Result<Count> {
-    let c = c.case(rt, b"Matrix2::order", Matrix2::order() == 2)?;
-    let c = c.case(rt, b"Matrix3::order", Matrix3::order() == 3)?;
-    c.case(rt, b"Matrix4::order", Matrix4::order() == 4)
+    let c = c.case(rt, b"Matrix2::order", Matrix2::ORDER == 2)?;
+    let c = c.case(rt, b"Matrix3::order", Matrix3::ORDER == 3)?;
+    c.case(rt, b"Matrix4::order", Matrix4::ORDER == 4)
 }
 
 // Which place this is: 0 for none, 1 for the first, 2 for the second.

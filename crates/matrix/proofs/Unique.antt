@@ -7,19 +7,22 @@ use Rattle.vector.proofs.Decided.{Decided, DecidedLent, DecidedWhere, value, com
 use Rattle.matrix.proofs.arithmetic.Matrix2VectorSpace
 use Rattle.matrix.proofs.arithmetic.Matrix3VectorSpace
 use Rattle.matrix.proofs.arithmetic.Matrix4VectorSpace
+use Rattle.matrix.proofs.square.Matrix2SquareMatrix
+use Rattle.matrix.proofs.square.Matrix3SquareMatrix
+use Rattle.matrix.proofs.square.Matrix4SquareMatrix
 use Rattle.matrix.proofs.records.Matrix2
 use Rattle.matrix.proofs.records.Matrix3
 use Rattle.matrix.proofs.records.Matrix4
 
 -- ---- records.rt
 
-pub matrix2_order : Decided Matrix2.order.Reads.Learnt
+pub matrix2_order : Decided Matrix2SquareMatrix.ORDER.Reads.Learnt
 matrix2_order = value
 
-pub matrix2_zero : Decided Matrix2.zero.Reads.Learnt
+pub matrix2_zero : Decided Matrix2SquareMatrix.ZERO.Reads.Learnt
 matrix2_zero = value
 
-pub matrix2_identity : Decided Matrix2.identity.Reads.Learnt
+pub matrix2_identity : Decided Matrix2SquareMatrix.IDENTITY.Reads.Learnt
 matrix2_identity = value
 
 pub matrix2_new : Decided Matrix2.new.Reads.Learnt
@@ -37,19 +40,19 @@ matrix2_into_array = value
 pub matrix2_from_array : Decided Matrix2.from_array.Reads.Learnt
 matrix2_from_array = value
 
-pub matrix2_from_value : Decided Matrix2.from_value.Reads.Learnt
+pub matrix2_from_value : Decided Matrix2SquareMatrix.from_value.Reads.Learnt
 matrix2_from_value = value
 
-pub matrix2_from_diagonal : Decided Matrix2.from_diagonal.Reads.Learnt
+pub matrix2_from_diagonal : Decided Matrix2SquareMatrix.from_diagonal.Reads.Learnt
 matrix2_from_diagonal = value
 
-pub matrix3_order : Decided Matrix3.order.Reads.Learnt
+pub matrix3_order : Decided Matrix3SquareMatrix.ORDER.Reads.Learnt
 matrix3_order = value
 
-pub matrix3_zero : Decided Matrix3.zero.Reads.Learnt
+pub matrix3_zero : Decided Matrix3SquareMatrix.ZERO.Reads.Learnt
 matrix3_zero = value
 
-pub matrix3_identity : Decided Matrix3.identity.Reads.Learnt
+pub matrix3_identity : Decided Matrix3SquareMatrix.IDENTITY.Reads.Learnt
 matrix3_identity = value
 
 pub matrix3_new : Decided Matrix3.new.Reads.Learnt
@@ -73,22 +76,22 @@ matrix3_into_array = value
 pub matrix3_from_array : Decided Matrix3.from_array.Reads.Learnt
 matrix3_from_array = value
 
-pub matrix3_from_value : Decided Matrix3.from_value.Reads.Learnt
+pub matrix3_from_value : Decided Matrix3SquareMatrix.from_value.Reads.Learnt
 matrix3_from_value = value
 
-pub matrix3_from_diagonal : Decided Matrix3.from_diagonal.Reads.Learnt
+pub matrix3_from_diagonal : Decided Matrix3SquareMatrix.from_diagonal.Reads.Learnt
 matrix3_from_diagonal = value
 
 pub matrix3_from_matrix2 : Decided Matrix3.from_matrix2.Reads.Learnt
 matrix3_from_matrix2 = value
 
-pub matrix4_order : Decided Matrix4.order.Reads.Learnt
+pub matrix4_order : Decided Matrix4SquareMatrix.ORDER.Reads.Learnt
 matrix4_order = value
 
-pub matrix4_zero : Decided Matrix4.zero.Reads.Learnt
+pub matrix4_zero : Decided Matrix4SquareMatrix.ZERO.Reads.Learnt
 matrix4_zero = value
 
-pub matrix4_identity : Decided Matrix4.identity.Reads.Learnt
+pub matrix4_identity : Decided Matrix4SquareMatrix.IDENTITY.Reads.Learnt
 matrix4_identity = value
 
 pub matrix4_new : Decided Matrix4.new.Reads.Learnt
@@ -112,10 +115,10 @@ matrix4_into_array = value
 pub matrix4_from_array : Decided Matrix4.from_array.Reads.Learnt
 matrix4_from_array = value
 
-pub matrix4_from_value : Decided Matrix4.from_value.Reads.Learnt
+pub matrix4_from_value : Decided Matrix4SquareMatrix.from_value.Reads.Learnt
 matrix4_from_value = value
 
-pub matrix4_from_diagonal : Decided Matrix4.from_diagonal.Reads.Learnt
+pub matrix4_from_diagonal : Decided Matrix4SquareMatrix.from_diagonal.Reads.Learnt
 matrix4_from_diagonal = value
 
 pub matrix4_from_matrix2 : Decided Matrix4.from_matrix2.Reads.Learnt
@@ -211,10 +214,10 @@ matrix2_scalar_mul = value
 pub matrix2_scalar_div : Decided Matrix2VectorSpace.scalar_div.Reads.Learnt
 matrix2_scalar_div = value
 
-pub matrix2_mul_vector : Decided Matrix2.mul_vector.Reads.Learnt
+pub matrix2_mul_vector : Decided Matrix2SquareMatrix.mul_vector.Reads.Learnt
 matrix2_mul_vector = value
 
-pub matrix2_mul : Decided Matrix2.mul.Reads.Learnt
+pub matrix2_mul : Decided Matrix2SquareMatrix.mul.Reads.Learnt
 matrix2_mul = value
 
 pub matrix2_neg : Decided Matrix2VectorSpace.neg.Reads.Learnt
@@ -244,10 +247,10 @@ matrix3_scalar_mul = value
 pub matrix3_scalar_div : Decided Matrix3VectorSpace.scalar_div.Reads.Learnt
 matrix3_scalar_div = value
 
-pub matrix3_mul_vector : Decided Matrix3.mul_vector.Reads.Learnt
+pub matrix3_mul_vector : Decided Matrix3SquareMatrix.mul_vector.Reads.Learnt
 matrix3_mul_vector = value
 
-pub matrix3_mul : Decided Matrix3.mul.Reads.Learnt
+pub matrix3_mul : Decided Matrix3SquareMatrix.mul.Reads.Learnt
 matrix3_mul = value
 
 pub matrix3_neg : Decided Matrix3VectorSpace.neg.Reads.Learnt
@@ -277,10 +280,10 @@ matrix4_scalar_mul = value
 pub matrix4_scalar_div : Decided Matrix4VectorSpace.scalar_div.Reads.Learnt
 matrix4_scalar_div = value
 
-pub matrix4_mul_vector : Decided Matrix4.mul_vector.Reads.Learnt
+pub matrix4_mul_vector : Decided Matrix4SquareMatrix.mul_vector.Reads.Learnt
 matrix4_mul_vector = value
 
-pub matrix4_mul : Decided Matrix4.mul.Reads.Learnt
+pub matrix4_mul : Decided Matrix4SquareMatrix.mul.Reads.Learnt
 matrix4_mul = value
 
 pub matrix4_neg : Decided Matrix4VectorSpace.neg.Reads.Learnt

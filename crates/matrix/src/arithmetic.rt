@@ -1,10 +1,10 @@
 // Sums, scalar forms and products: document 01, 'Modules, leaves first', 4.
 ghost use Rattle.std.specs.Prelude.{◌≡◌};
 ghost use Rattle.matrix.specs.Arithmetic.{map2, map3, map4, zip2, zip3, zip4};
-ghost use Rattle.matrix.specs.Arithmetic.{mul2, mul3, mul4, combine4, mul_vector2, mul_vector3, mul_vector4};
+ghost use Rattle.matrix.specs.Arithmetic.{combine4};
 
 use crate::records::{Matrix2, Matrix3, Matrix4};
-use vector::{Vector2, Vector3, Vector4, VectorSpace};
+use vector::{Vector4, VectorSpace};
 
 impl VectorSpace for Matrix2 {
     ghost map = { map2 };
@@ -17,23 +17,6 @@ impl VectorSpace for Matrix2 {
 
     fn zip<F: Fn(f64, f64) -> f64 + Copy>(self, other: Matrix2, f: F) -> Matrix2 {
         Matrix2::from_cols(self.x.zip(other.x, f), self.y.zip(other.y, f))
-    }
-}
-
-impl Matrix2 {
-    // Each row dot the vector.
-    pub fn mul_vector(self, vector: Vector2) -> Vector2
-        ensures { result ≡ mul_vector2 self vector }
-    {
-        let rows = self.transpose();
-        Vector2::new(rows.x.dot(vector), rows.y.dot(vector))
-    }
-
-    // The product: each row of this matrix dot each column of the other.
-    pub fn mul(self, other: Matrix2) -> Matrix2
-        ensures { result ≡ mul2 self other }
-    {
-        Matrix2::from_cols(self.mul_vector(other.x), self.mul_vector(other.y))
     }
 }
 
@@ -51,27 +34,6 @@ impl VectorSpace for Matrix3 {
             self.x.zip(other.x, f),
             self.y.zip(other.y, f),
             self.z.zip(other.z, f),
-        )
-    }
-}
-
-impl Matrix3 {
-    // Each row dot the vector.
-    pub fn mul_vector(self, vector: Vector3) -> Vector3
-        ensures { result ≡ mul_vector3 self vector }
-    {
-        let rows = self.transpose();
-        Vector3::new(rows.x.dot(vector), rows.y.dot(vector), rows.z.dot(vector))
-    }
-
-    // The product: each row of this matrix dot each column of the other.
-    pub fn mul(self, other: Matrix3) -> Matrix3
-        ensures { result ≡ mul3 self other }
-    {
-        Matrix3::from_cols(
-            self.mul_vector(other.x),
-            self.mul_vector(other.y),
-            self.mul_vector(other.z),
         )
     }
 }
@@ -96,33 +58,8 @@ impl VectorSpace for Matrix4 {
 }
 
 impl Matrix4 {
-    // Each row dot the vector.
-    pub fn mul_vector(self, vector: Vector4) -> Vector4
-        ensures { result ≡ mul_vector4 self vector }
-    {
-        let rows = self.transpose();
-        Vector4::new(
-            rows.x.dot(vector),
-            rows.y.dot(vector),
-            rows.z.dot(vector),
-            rows.w.dot(vector),
-        )
-    }
-
-    // The product: each column of the other combines the columns of this matrix.
-    pub fn mul(self, other: Matrix4) -> Matrix4
-        ensures { result ≡ mul4 self other }
-    {
-        Matrix4::from_cols(
-            self.combine(other.x),
-            self.combine(other.y),
-            self.combine(other.z),
-            self.combine(other.w),
-        )
-    }
-
     // The left-to-right sum over k of column k times entry k of the vector.
-    fn combine(self, v: Vector4) -> Vector4
+    pub(crate) fn combine(self, v: Vector4) -> Vector4
         ensures { result ≡ combine4 self v }
     {
         Vector4::new(

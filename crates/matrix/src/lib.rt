@@ -8,6 +8,8 @@ pub mod inverse;
 pub mod places;
 pub mod records;
 pub mod rotations;
+pub mod square;
 
 pub use places::{Column, Row};
 pub use records::{Matrix2, Matrix3, Matrix4};
+pub use square::SquareMatrix;

@@ -12,6 +12,7 @@ ghost use Rattle.matrix.specs.Places.{swap_columns2, swap_columns3, swap_columns
 ghost use Rattle.matrix.specs.Places.{swap_elements2, swap_elements3, swap_elements4};
 
 use crate::records::{Matrix2, Matrix3, Matrix4};
+use crate::square::SquareMatrix;
 use vector::{Place, Refusal, Vector2, Vector3, Vector4};
 
 // A column's number, counted from 0.

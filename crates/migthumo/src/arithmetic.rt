@@ -4,7 +4,7 @@ ghost use Rattle.migthumo.specs.Entries.{Answers};
 ghost use Rattle.migthumo.specs.Boundary.{product, add, subtract, scale, divide, scale_by, divide_by, negate};
 
 use crate::{code, entry};
-use matrix::{Matrix2, Matrix3, Matrix4};
+use matrix::{Matrix2, Matrix3, Matrix4, SquareMatrix};
 use vector::{Refusal, VectorSpace};
 
 // The product a times b.

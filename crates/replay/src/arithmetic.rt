@@ -6,6 +6,7 @@ use crate::table::{
 use crate::words::{
     ROOM, matrix2_at, matrix3_at, matrix4_at, number_at, vector2_at, vector3_at, vector4_at,
 };
+use matrix::SquareMatrix;
 use vector::VectorSpace;
 
 // A sum, a scalar form or a product of order 2.

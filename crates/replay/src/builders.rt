@@ -7,13 +7,13 @@ use crate::table::{
 use crate::words::{
     ROOM, matrix2_at, matrix3_at, matrix4_at, number_at, vector2_at, vector3_at, vector4_at,
 };
-use matrix::{Matrix2, Matrix3, Matrix4};
+use matrix::{Matrix2, Matrix3, Matrix4, SquareMatrix};
 
 // A builder of a matrix of order 2. What `into_array` gives is read back by `from_array`.
 pub(crate) fn order2(operation: usize, words: &[u64; ROOM]) -> Answer {
     let result = match operation {
-        ZERO => Matrix2::zero(),
-        IDENTITY => Matrix2::identity(),
+        ZERO => Matrix2::ZERO,
+        IDENTITY => Matrix2::IDENTITY,
         NEW => new2(words),
         FROM_COLS => Matrix2::from_cols(vector2_at(words, 0), vector2_at(words, 2)),
         FROM_ARRAY => Matrix2::from_array(array2(words)),
@@ -47,8 +47,8 @@ fn array2(words: &[u64; ROOM]) -> [[f64; 2]; 2] {
 // A builder of a matrix of order 3. What `into_array` gives is read back by `from_array`.
 pub(crate) fn order3(operation: usize, words: &[u64; ROOM]) -> Answer {
     let result = match operation {
-        ZERO => Matrix3::zero(),
-        IDENTITY => Matrix3::identity(),
+        ZERO => Matrix3::ZERO,
+        IDENTITY => Matrix3::IDENTITY,
         NEW => new3(words),
         FROM_COLS => Matrix3::from_cols(
             vector3_at(words, 0),
@@ -110,8 +110,8 @@ fn array3(words: &[u64; ROOM]) -> [[f64; 3]; 3] {
 // A builder of a matrix of order 4. What `into_array` gives is read back by `from_array`.
 pub(crate) fn order4(operation: usize, words: &[u64; ROOM]) -> Answer {
     let result = match operation {
-        ZERO => Matrix4::zero(),
-        IDENTITY => Matrix4::identity(),
+        ZERO => Matrix4::ZERO,
+        IDENTITY => Matrix4::IDENTITY,
         NEW => new4(words),
         FROM_COLS => Matrix4::from_cols(
             vector4_at(words, 0),

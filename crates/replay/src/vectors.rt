@@ -5,7 +5,7 @@ use crate::table::{
     VECTOR_TRUNCATE_N,
 };
 use crate::words::{ROOM, number_at, place_at, vector2_at, vector3_at, vector4_at};
-use vector::VectorSpace;
+use vector::{Vector, VectorSpace};
 
 // An operation of vectors of two numbers.
 pub(crate) fn order2(operation: usize, words: &[u64; ROOM]) -> Answer {

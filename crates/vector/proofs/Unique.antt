@@ -8,20 +8,23 @@ use Rattle.vector.proofs.Vector2
 use Rattle.vector.proofs.Vector3
 use Rattle.vector.proofs.Vector4
 use Rattle.vector.proofs.Vector2VectorSpace
+use Rattle.vector.proofs.Vector2Vector
 use Rattle.vector.proofs.Vector3VectorSpace
+use Rattle.vector.proofs.Vector3Vector
 use Rattle.vector.proofs.Vector4VectorSpace
+use Rattle.vector.proofs.Vector4Vector
 use Rattle.vector.proofs.refusal.Refusal
 
 pub vector2_new : Decided Vector2.new.Reads.Learnt
 vector2_new = value
 
-pub vector2_dot : Decided Vector2.dot.Reads.Learnt
+pub vector2_dot : Decided Vector2Vector.dot.Reads.Learnt
 vector2_dot = value
 
 pub vector3_new : Decided Vector3.new.Reads.Learnt
 vector3_new = value
 
-pub vector3_dot : Decided Vector3.dot.Reads.Learnt
+pub vector3_dot : Decided Vector3Vector.dot.Reads.Learnt
 vector3_dot = value
 
 pub vector3_cross : Decided Vector3.cross.Reads.Learnt
@@ -30,7 +33,7 @@ vector3_cross = value
 pub vector4_new : Decided Vector4.new.Reads.Learnt
 vector4_new = value
 
-pub vector4_dot : Decided Vector4.dot.Reads.Learnt
+pub vector4_dot : Decided Vector4Vector.dot.Reads.Learnt
 vector4_dot = value
 
 pub vector4_truncate_n : Decided Vector4.truncate_n.Reads.Learnt
@@ -64,7 +67,6 @@ vector2_mul_scalar = value
 
 pub vector2_div_scalar : Decided Vector2VectorSpace.div_scalar.Reads.Learnt
 vector2_div_scalar = value
-
 
 pub vector3_add : Decided Vector3VectorSpace.add.Reads.Learnt
 vector3_add = value
@@ -125,3 +127,21 @@ vector4_map T L C F d1 d2 d3 K d4 = computed
 
 pub vector4_zip : (T : _) (L : _) (C : _) (F : _) (d1 d2 d3 : _) (K : _) (d4 : _) → DecidedWhere (λ κ a. (f : Float → Float → Float) × Computes₂ (λ x y r. F.post a.1.1.0 (x, (y, tt)) r) f) (Vector4VectorSpace.zip.Reads.Learnt T L C F d1 d2 d3 K d4)
 vector4_zip T L C F d1 d2 d3 K d4 = computed
+
+pub vector2_length : Decided Vector2Vector.LENGTH.Reads.Learnt
+vector2_length = value
+
+pub vector2_from_value : Decided Vector2Vector.from_value.Reads.Learnt
+vector2_from_value = value
+
+pub vector3_length : Decided Vector3Vector.LENGTH.Reads.Learnt
+vector3_length = value
+
+pub vector3_from_value : Decided Vector3Vector.from_value.Reads.Learnt
+vector3_from_value = value
+
+pub vector4_length : Decided Vector4Vector.LENGTH.Reads.Learnt
+vector4_length = value
+
+pub vector4_from_value : Decided Vector4Vector.from_value.Reads.Learnt
+vector4_from_value = value

@@ -5,14 +5,15 @@
 pub mod refusal;
 pub mod space;
 
-ghost use Rattle.std.specs.Prelude.{◌≡◌};
+ghost use Rattle.std.specs.Prelude.{◌≡◌, refl};
 ghost use Rattle.vector.specs.Vectors.{vector2, vector3, vector4};
 ghost use Rattle.vector.specs.Vectors.{map2, map3, map4, zip2, zip3, zip4};
+ghost use Rattle.vector.specs.Vectors.{entries2, entries3, entries4, of_entries2, of_entries3, of_entries4};
 ghost use Rattle.vector.specs.Vectors.{dot2, dot3, dot4, cross3, truncate_n4};
 ghost use Rattle.vector.specs.Refusals.{outcome};
 
 pub use refusal::{Place, Refusal};
-pub use space::VectorSpace;
+pub use space::{Vector, VectorSpace};
 
 // A vector of two numbers.
 #[repr(C)]
@@ -48,13 +49,6 @@ impl Vector2 {
     {
         Vector2 { x, y }
     }
-
-    // The products entry by entry, summed.
-    pub fn dot(self, other: Vector2) -> f64
-        ensures { result ≡ dot2 self other }
-    {
-        self.x * other.x + self.y * other.y
-    }
 }
 
 impl VectorSpace for Vector2 {
@@ -71,19 +65,37 @@ impl VectorSpace for Vector2 {
     }
 }
 
+impl Vector for Vector2 {
+    ghost LENGTH = { 2 };
+
+    ghost entries = { entries2 };
+
+    ghost of_entries = { of_entries2 };
+
+    ghost dot = { dot2 };
+
+    const LENGTH: usize = 2;
+
+    ghost length_is = { λ v. refl };
+
+    ghost there_and_back = { λ v. refl };
+
+    fn from_value(value: f64) -> Vector2 {
+        Vector2::new(value, value)
+    }
+
+    // The products entry by entry, summed.
+    fn dot(self, other: Vector2) -> f64 {
+        self.x * other.x + self.y * other.y
+    }
+}
+
 impl Vector3 {
     // The vector of these numbers.
     pub fn new(x: f64, y: f64, z: f64) -> Vector3
         ensures { result ≡ vector3 x y z }
     {
         Vector3 { x, y, z }
-    }
-
-    // The products entry by entry, summed x + (y + z).
-    pub fn dot(self, other: Vector3) -> f64
-        ensures { result ≡ dot3 self other }
-    {
-        self.x * other.x + (self.y * other.y + self.z * other.z)
     }
 
     // The cross product.
@@ -112,19 +124,37 @@ impl VectorSpace for Vector3 {
     }
 }
 
+impl Vector for Vector3 {
+    ghost LENGTH = { 3 };
+
+    ghost entries = { entries3 };
+
+    ghost of_entries = { of_entries3 };
+
+    ghost dot = { dot3 };
+
+    const LENGTH: usize = 3;
+
+    ghost length_is = { λ v. refl };
+
+    ghost there_and_back = { λ v. refl };
+
+    fn from_value(value: f64) -> Vector3 {
+        Vector3::new(value, value, value)
+    }
+
+    // The products entry by entry, summed x + (y + z).
+    fn dot(self, other: Vector3) -> f64 {
+        self.x * other.x + (self.y * other.y + self.z * other.z)
+    }
+}
+
 impl Vector4 {
     // The vector of these numbers.
     pub fn new(x: f64, y: f64, z: f64, w: f64) -> Vector4
         ensures { result ≡ vector4 x y z w }
     {
         Vector4 { x, y, z, w }
-    }
-
-    // The products entry by entry, summed x + (y + (z + w)).
-    pub fn dot(self, other: Vector4) -> f64
-        ensures { result ≡ dot4 self other }
-    {
-        self.x * other.x + (self.y * other.y + (self.z * other.z + self.w * other.w))
     }
 
     // The other three entries in their order, without entry n, or refusal 12, first.
@@ -157,5 +187,30 @@ impl VectorSpace for Vector4 {
             f(self.z, other.z),
             f(self.w, other.w),
         )
+    }
+}
+
+impl Vector for Vector4 {
+    ghost LENGTH = { 4 };
+
+    ghost entries = { entries4 };
+
+    ghost of_entries = { of_entries4 };
+
+    ghost dot = { dot4 };
+
+    const LENGTH: usize = 4;
+
+    ghost length_is = { λ v. refl };
+
+    ghost there_and_back = { λ v. refl };
+
+    fn from_value(value: f64) -> Vector4 {
+        Vector4::new(value, value, value, value)
+    }
+
+    // The products entry by entry, summed x + (y + (z + w)).
+    fn dot(self, other: Vector4) -> f64 {
+        self.x * other.x + (self.y * other.y + (self.z * other.z + self.w * other.w))
     }
 }

@@ -1,5 +1,5 @@
 // What vectors and matrices share, after the Rust's VectorSpace: each operation on the entries, said once for every order.
-ghost use Rattle.std.specs.Prelude.{◌≡◌, Float};
+ghost use Rattle.std.specs.Prelude.{◌≡◌, ℕ, List, length, replicate, Float};
 ghost use Rattle.std.specs.Float.Ieee.{neg};
 ghost use Rattle.vector.specs.Arithmetic.{◌⊕◌, ◌⊖◌, ◌⊗◌, ◌⊘◌, Computes, Computes₂};
 
@@ -67,4 +67,31 @@ pub trait VectorSpace: Copy {
     {
         self.map(|e| e / scalar)
     }
+}
+
+// A vector, after the Rust's Array and InnerSpace: its entries as a list, and the dot.
+pub trait Vector: VectorSpace {
+    ghost LENGTH: { ℕ };
+
+    ghost entries: { Self → List Float };
+
+    ghost of_entries: { List Float → Self };
+
+    ghost dot: { Self → Self → Float };
+
+    // How many entries it has.
+    const LENGTH: usize;
+
+    // The value in each place.
+    fn from_value(value: f64) -> Self
+        ensures { result ≡ of_entries (replicate LENGTH value) };
+
+    // The products entry by entry, summed.
+    fn dot(self, other: Self) -> f64
+        ensures { result ≡ dot self other };
+
+    // The entries are as many as LENGTH says, and give the vector back.
+    ghost length_is: { (v : Self) → length (entries v) ≡ LENGTH };
+
+    ghost there_and_back: { (v : Self) → of_entries (entries v) ≡ v };
 }
