@@ -2,5 +2,4 @@ pub mod Arrays
 pub mod Equal
 pub mod Ranges
 pub mod Singular
-pub mod Unique
 pub mod Kept

@@ -1,7 +1,8 @@
 -- A range test that found nothing bounds its numbers, at any order.
 -- Assumes nothing.
 use mathlib.Core.Path.{◌≡◌, refl, sym}
-use Prim.Native.Nat.{ℕ, ◌<◌}
+use Prim.Native.Nat.{ℕ, ◌*◌, ◌<◌, ◌≤◌}
+use native.Mathlib.Nat.{mul-le-mul}
 use native.Mathlib.Omega.{arith}
 use Rattle.vector.specs.declared.refusal.Place.{Place}
 use Rattle.vector.specs.Refusals.{Outcome, given, refused, after}
@@ -37,3 +38,7 @@ elements_within n ac ar bc br e =
     let q = both _ _ (sym p.1) in
     let r = both _ _ (sym q.1) in
     (passes _ n _ p.0, passes _ n _ q.0, passes _ n _ r.0, passes _ n _ r.1)
+
+-- an array of columns of an order up to 4 has a size that the machine can say
+pub fits : (n : ℕ) → n ≤ 4 → (n * (n * 8) < 9223372036854775808) × (n * 8 < 9223372036854775808)
+fits n most = let row : n * 8 ≤ 32 = omega (arith, most) in let square : n * (n * 8) ≤ 4 * 32 = mul-le-mul most row in (omega (arith, square), omega (arith, most))

@@ -4,7 +4,7 @@ ghost use Rattle.std.specs.Prelude.{◌≡◌};
 ghost use Rattle.vector.specs.Refusals.{outcome, done, leaves};
 ghost use Rattle.matrix.specs.Places.{swap_rows4, swap_columns4, swap_elements4};
 
-use crate::places::{Column, Row};
+use crate::places::{Column, Matrix, Row};
 use crate::records::Matrix4;
 use vector::Refusal;
 

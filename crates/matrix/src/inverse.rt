@@ -7,6 +7,7 @@ ghost use Rattle.matrix.specs.Inverse.{det2, det3, det4, det_sub_proc};
 ghost use Rattle.matrix.specs.Inverse.{invert2, invert3, invert4};
 ghost use Rattle.matrix.specs.Inverse.{without_place, sign, cofactor, inverse_column};
 
+use crate::places::Matrix;
 use crate::records::{Matrix2, Matrix3, Matrix4};
 use vector::{Refusal, Vector, Vector3, Vector4, VectorSpace};
 

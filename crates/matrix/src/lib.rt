@@ -10,6 +10,6 @@ pub mod records;
 pub mod rotations;
 pub mod square;
 
-pub use places::{Column, Row};
+pub use places::{Column, Matrix, Row};
 pub use records::{Matrix2, Matrix3, Matrix4};
 pub use square::SquareMatrix;

@@ -1,15 +1,12 @@
 // Row, diagonal, transpose and the swaps by value: document 01, 'Modules, leaves first', 3; what their range tests name: document 02, No. 1, 'Say column or row'.
-ghost use Rattle.std.specs.Prelude.{◌≡◌, ◌<◌};
-ghost use Rattle.std.specs.Float.{nan};
-ghost use Rattle.vector.specs.Refusals.{outcome};
-ghost use Rattle.matrix.specs.Records.{array2, array3, array4, of_array2, of_array3, of_array4};
+ghost use Rattle.std.specs.Prelude.{◌≡◌, ◌<◌, List, refl};
+ghost use Rattle.vector.specs.Refusals.{Outcome, outcome, given, after};
+ghost use Rattle.matrix.specs.declared.places.Row.{Row};
+ghost use Rattle.matrix.specs.Records.{of_array2, of_array3, of_array4};
 ghost use Rattle.matrix.specs.Places.{row_below, column_below, rows_below, columns_below, elements_below};
-ghost use Rattle.matrix.specs.Places.{exchange, row_of2, row_of3, row_of4, swap_rows, swap_columns, swap_elements};
+ghost use Rattle.matrix.specs.Places.{exchange, swap_rows, swap_columns, swap_elements};
 ghost use Rattle.matrix.specs.Places.{row2, row3, row4};
 ghost use Rattle.matrix.specs.Places.{diagonal2, diagonal3, diagonal4, transpose2, transpose3, transpose4};
-ghost use Rattle.matrix.specs.Places.{swap_rows2, swap_rows3, swap_rows4};
-ghost use Rattle.matrix.specs.Places.{swap_columns2, swap_columns3, swap_columns4};
-ghost use Rattle.matrix.specs.Places.{swap_elements2, swap_elements3, swap_elements4};
 
 use crate::records::{Matrix2, Matrix3, Matrix4};
 use crate::square::SquareMatrix;
@@ -116,194 +113,195 @@ fn elements_swapped<const N: usize>(m: [[f64; N]; N], ac: usize, ar: usize, bc: 
     out
 }
 
-// Row r of the array.
-fn row_of2(m: [[f64; 2]; 2], r: usize) -> Vector2
-    requires { r < 2 }
-    ensures { result ≡ row_of2 m r }
-{
-    Vector2::new(m[0][r], m[1][r])
-}
+// Rows, columns and entries by their numbers, after the Rust's Matrix: what the numbers decide is said once for every order.
+pub trait Matrix<const N: usize>: SquareMatrix {
+    ghost row: { Self → Row → Outcome Self.Column };
 
-impl Matrix2 {
+    ghost diagonal: { Self → Self.Column };
+
+    ghost transpose: { Self → Self };
+
+    // The array of columns, each an array of numbers.
+    fn into_array(self) -> [[f64; N]; N]
+        ensures { result ≡ Self.array self };
+
+    // The matrix of an array of columns.
+    fn from_array(m: [[f64; N]; N]) -> Self
+        ensures { result ≡ Self.of_array m.entry };
+
     // Row r, or refusal 12, first.
-    #[tactic(auto, using(crate::proofs::Ranges::row_within))]
-    pub fn row(self, r: Row) -> Result<Vector2, Refusal>
-        ensures { outcome result ≡ row2 self r }
-    {
-        check_row(Matrix2::ORDER, Place::First, r)?;
-        Ok(row_of2(self.into_array(), r.0))
-    }
+    fn row(self, r: Row) -> Result<Self::Column, Refusal>
+        ensures { outcome result ≡ row self r };
 
     // The diagonal.
-    pub fn diagonal(self) -> Vector2
-        ensures { result ≡ diagonal2 self }
-    {
-        Vector2::new(self.x.x, self.y.y)
-    }
+    fn diagonal(self) -> Self::Column
+        ensures { result ≡ diagonal self };
 
     // Columns become rows.
-    pub fn transpose(self) -> Matrix2
-        ensures { result ≡ transpose2 self }
-    {
-        Matrix2::from_array([[self.x.x, self.y.x], [self.x.y, self.y.y]])
-    }
+    fn transpose(self) -> Self
+        ensures { result ≡ transpose self };
 
     // Rows a and b exchanged, or refusal 12.
-    #[tactic(auto, using(crate::proofs::Ranges::rows_within))]
-    pub fn swap_rows(self, a: Row, b: Row) -> Result<Matrix2, Refusal>
-        ensures { outcome result ≡ swap_rows2 self a b }
+    fn swap_rows(self, a: Row, b: Row) -> Result<Self, Refusal>
+        ensures { outcome result ≡ after (rows_below N a b) (given (Self.of_array (swap_rows (Self.array self) a.0 b.0))) }
     {
-        check_rows(Matrix2::ORDER, a, b)?;
-        Ok(Matrix2::from_array(rows_swapped(self.into_array(), a.0, b.0)))
+        check_rows(N, a, b)?;
+        Ok(Self::from_array(rows_swapped(self.into_array(), a.0, b.0)))
     }
 
     // Columns a and b exchanged, or refusal 11.
-    #[tactic(auto, using(crate::proofs::Ranges::columns_within))]
-    pub fn swap_columns(self, a: Column, b: Column) -> Result<Matrix2, Refusal>
-        ensures { outcome result ≡ swap_columns2 self a b }
+    fn swap_columns(self, a: Column, b: Column) -> Result<Self, Refusal>
+        ensures { outcome result ≡ after (columns_below N a b) (given (Self.of_array (swap_columns (Self.array self) a.0 b.0))) }
     {
-        check_columns(Matrix2::ORDER, a, b)?;
-        Ok(Matrix2::from_array(columns_swapped(self.into_array(), a.0, b.0)))
+        check_columns(N, a, b)?;
+        Ok(Self::from_array(columns_swapped(self.into_array(), a.0, b.0)))
     }
 
     // The entry in column ac, row ar and the one in column bc, row br exchanged, or refusal 11 or 12.
-    #[tactic(auto, using(crate::proofs::Ranges::elements_within))]
-    pub fn swap_elements(self, ac: Column, ar: Row, bc: Column, br: Row) -> Result<Matrix2, Refusal>
-        ensures { outcome result ≡ swap_elements2 self ac ar bc br }
+    fn swap_elements(self, ac: Column, ar: Row, bc: Column, br: Row) -> Result<Self, Refusal>
+        ensures { outcome result ≡ after (elements_below N ac ar bc br) (given (Self.of_array (swap_elements (Self.array self) ac.0 ar.0 bc.0 br.0))) }
     {
-        check_elements(Matrix2::ORDER, ac, ar, bc, br)?;
-        let m = elements_swapped(self.into_array(), ac.0, ar.0, bc.0, br.0);
-        Ok(Matrix2::from_array(m))
+        check_elements(N, ac, ar, bc, br)?;
+        Ok(Self::from_array(elements_swapped(self.into_array(), ac.0, ar.0, bc.0, br.0)))
+    }
+
+    // N is the order.
+    ghost order: { Self.ORDER ≡ N };
+}
+
+impl Matrix<2> for Matrix2 {
+    ghost row = { row2 };
+
+    ghost diagonal = { diagonal2 };
+
+    ghost transpose = { transpose2 };
+
+    ghost order = { refl };
+
+    fn into_array(self) -> [[f64; 2]; 2] {
+        [[self.x.x, self.x.y], [self.y.x, self.y.y]]
+    }
+
+    fn from_array(m: [[f64; 2]; 2]) -> Matrix2
+        ensures { result ≡ of_array2 m }
+    {
+        Matrix2::new(m[0][0], m[0][1], m[1][0], m[1][1])
+    }
+
+    fn row(self, r: Row) -> Result<Vector2, Refusal> {
+        let rows = self.transpose();
+        match r.0 {
+            0 => Ok(rows.x),
+            1 => Ok(rows.y),
+            _ => Err(Refusal::Row(Place::First)),
+        }
+    }
+
+    fn diagonal(self) -> Vector2 {
+        Vector2::new(self.x.x, self.y.y)
+    }
+
+    fn transpose(self) -> Matrix2 {
+        Matrix2::from_array([[self.x.x, self.y.x], [self.x.y, self.y.y]])
     }
 }
 
-// Row r of the array.
-fn row_of3(m: [[f64; 3]; 3], r: usize) -> Vector3
-    requires { r < 3 }
-    ensures { result ≡ row_of3 m r }
-{
-    Vector3::new(m[0][r], m[1][r], m[2][r])
-}
+impl Matrix<3> for Matrix3 {
+    ghost row = { row3 };
 
-impl Matrix3 {
-    // Row r, or refusal 12, first.
-    #[tactic(auto, using(crate::proofs::Ranges::row_within))]
-    pub fn row(self, r: Row) -> Result<Vector3, Refusal>
-        ensures { outcome result ≡ row3 self r }
-    {
-        check_row(Matrix3::ORDER, Place::First, r)?;
-        Ok(row_of3(self.into_array(), r.0))
+    ghost diagonal = { diagonal3 };
+
+    ghost transpose = { transpose3 };
+
+    ghost order = { refl };
+
+    fn into_array(self) -> [[f64; 3]; 3] {
+        [
+            [self.x.x, self.x.y, self.x.z],
+            [self.y.x, self.y.y, self.y.z],
+            [self.z.x, self.z.y, self.z.z],
+        ]
     }
 
-    // The diagonal.
-    pub fn diagonal(self) -> Vector3
-        ensures { result ≡ diagonal3 self }
+    fn from_array(m: [[f64; 3]; 3]) -> Matrix3
+        ensures { result ≡ of_array3 m }
     {
+        Matrix3::new(
+            m[0][0], m[0][1], m[0][2], m[1][0], m[1][1], m[1][2], m[2][0], m[2][1], m[2][2],
+        )
+    }
+
+    fn row(self, r: Row) -> Result<Vector3, Refusal> {
+        let rows = self.transpose();
+        match r.0 {
+            0 => Ok(rows.x),
+            1 => Ok(rows.y),
+            2 => Ok(rows.z),
+            _ => Err(Refusal::Row(Place::First)),
+        }
+    }
+
+    fn diagonal(self) -> Vector3 {
         Vector3::new(self.x.x, self.y.y, self.z.z)
     }
 
-    // Columns become rows.
-    pub fn transpose(self) -> Matrix3
-        ensures { result ≡ transpose3 self }
-    {
+    fn transpose(self) -> Matrix3 {
         Matrix3::from_array([
             [self.x.x, self.y.x, self.z.x],
             [self.x.y, self.y.y, self.z.y],
             [self.x.z, self.y.z, self.z.z],
         ])
     }
-
-    // Rows a and b exchanged, or refusal 12.
-    #[tactic(auto, using(crate::proofs::Ranges::rows_within))]
-    pub fn swap_rows(self, a: Row, b: Row) -> Result<Matrix3, Refusal>
-        ensures { outcome result ≡ swap_rows3 self a b }
-    {
-        check_rows(Matrix3::ORDER, a, b)?;
-        Ok(Matrix3::from_array(rows_swapped(self.into_array(), a.0, b.0)))
-    }
-
-    // Columns a and b exchanged, or refusal 11.
-    #[tactic(auto, using(crate::proofs::Ranges::columns_within))]
-    pub fn swap_columns(self, a: Column, b: Column) -> Result<Matrix3, Refusal>
-        ensures { outcome result ≡ swap_columns3 self a b }
-    {
-        check_columns(Matrix3::ORDER, a, b)?;
-        Ok(Matrix3::from_array(columns_swapped(self.into_array(), a.0, b.0)))
-    }
-
-    // The entry in column ac, row ar and the one in column bc, row br exchanged, or refusal 11 or 12.
-    #[tactic(auto, using(crate::proofs::Ranges::elements_within))]
-    pub fn swap_elements(self, ac: Column, ar: Row, bc: Column, br: Row) -> Result<Matrix3, Refusal>
-        ensures { outcome result ≡ swap_elements3 self ac ar bc br }
-    {
-        check_elements(Matrix3::ORDER, ac, ar, bc, br)?;
-        let m = elements_swapped(self.into_array(), ac.0, ar.0, bc.0, br.0);
-        Ok(Matrix3::from_array(m))
-    }
 }
 
-// Row r of the array.
-fn row_of4(m: [[f64; 4]; 4], r: usize) -> Vector4
-    requires { r < 4 }
-    ensures { result ≡ row_of4 m r }
-{
-    Vector4::new(m[0][r], m[1][r], m[2][r], m[3][r])
-}
+impl Matrix<4> for Matrix4 {
+    ghost row = { row4 };
 
-impl Matrix4 {
-    // Row r, or refusal 12, first.
-    #[tactic(auto, using(crate::proofs::Ranges::row_within))]
-    pub fn row(self, r: Row) -> Result<Vector4, Refusal>
-        ensures { outcome result ≡ row4 self r }
-    {
-        check_row(Matrix4::ORDER, Place::First, r)?;
-        Ok(row_of4(self.into_array(), r.0))
+    ghost diagonal = { diagonal4 };
+
+    ghost transpose = { transpose4 };
+
+    ghost order = { refl };
+
+    fn into_array(self) -> [[f64; 4]; 4] {
+        [
+            [self.x.x, self.x.y, self.x.z, self.x.w],
+            [self.y.x, self.y.y, self.y.z, self.y.w],
+            [self.z.x, self.z.y, self.z.z, self.z.w],
+            [self.w.x, self.w.y, self.w.z, self.w.w],
+        ]
     }
 
-    // The diagonal.
-    pub fn diagonal(self) -> Vector4
-        ensures { result ≡ diagonal4 self }
+    fn from_array(m: [[f64; 4]; 4]) -> Matrix4
+        ensures { result ≡ of_array4 m }
     {
+        Matrix4::new(
+            m[0][0], m[0][1], m[0][2], m[0][3], m[1][0], m[1][1], m[1][2], m[1][3], m[2][0],
+            m[2][1], m[2][2], m[2][3], m[3][0], m[3][1], m[3][2], m[3][3],
+        )
+    }
+
+    fn row(self, r: Row) -> Result<Vector4, Refusal> {
+        let rows = self.transpose();
+        match r.0 {
+            0 => Ok(rows.x),
+            1 => Ok(rows.y),
+            2 => Ok(rows.z),
+            3 => Ok(rows.w),
+            _ => Err(Refusal::Row(Place::First)),
+        }
+    }
+
+    fn diagonal(self) -> Vector4 {
         Vector4::new(self.x.x, self.y.y, self.z.z, self.w.w)
     }
 
-    // Columns become rows.
-    pub fn transpose(self) -> Matrix4
-        ensures { result ≡ transpose4 self }
-    {
+    fn transpose(self) -> Matrix4 {
         Matrix4::from_array([
             [self.x.x, self.y.x, self.z.x, self.w.x],
             [self.x.y, self.y.y, self.z.y, self.w.y],
             [self.x.z, self.y.z, self.z.z, self.w.z],
             [self.x.w, self.y.w, self.z.w, self.w.w],
         ])
-    }
-
-    // Rows a and b exchanged, or refusal 12.
-    #[tactic(auto, using(crate::proofs::Ranges::rows_within))]
-    pub fn swap_rows(self, a: Row, b: Row) -> Result<Matrix4, Refusal>
-        ensures { outcome result ≡ swap_rows4 self a b }
-    {
-        check_rows(Matrix4::ORDER, a, b)?;
-        Ok(Matrix4::from_array(rows_swapped(self.into_array(), a.0, b.0)))
-    }
-
-    // Columns a and b exchanged, or refusal 11.
-    #[tactic(auto, using(crate::proofs::Ranges::columns_within))]
-    pub fn swap_columns(self, a: Column, b: Column) -> Result<Matrix4, Refusal>
-        ensures { outcome result ≡ swap_columns4 self a b }
-    {
-        check_columns(Matrix4::ORDER, a, b)?;
-        Ok(Matrix4::from_array(columns_swapped(self.into_array(), a.0, b.0)))
-    }
-
-    // The entry in column ac, row ar and the one in column bc, row br exchanged, or refusal 11 or 12.
-    #[tactic(auto, using(crate::proofs::Ranges::elements_within))]
-    pub fn swap_elements(self, ac: Column, ar: Row, bc: Column, br: Row) -> Result<Matrix4, Refusal>
-        ensures { outcome result ≡ swap_elements4 self ac ar bc br }
-    {
-        check_elements(Matrix4::ORDER, ac, ar, bc, br)?;
-        let m = elements_swapped(self.into_array(), ac.0, ar.0, bc.0, br.0);
-        Ok(Matrix4::from_array(m))
     }
 }

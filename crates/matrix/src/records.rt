@@ -1,12 +1,12 @@
 // The matrix records, their constants, arrays, builders and embeddings: document 01, 'Modules, leaves first', 2.
 ghost use Rattle.std.specs.Prelude.{◌≡◌};
 ghost use Rattle.matrix.specs.Records.{new2, new3, new4, matrix2, matrix3, matrix4};
-ghost use Rattle.matrix.specs.Records.{array2, array3, array4, of_array2, of_array3, of_array4};
 ghost use Rattle.matrix.specs.Records.{from_value2, from_value3, from_value4};
 ghost use Rattle.matrix.specs.Records.{from_translation3, from_translation4};
 ghost use Rattle.matrix.specs.Records.{from_nonuniform_scale3, from_nonuniform_scale4};
 ghost use Rattle.matrix.specs.Records.{embed23, embed24, embed34};
 
+use crate::places::Matrix;
 use crate::square::SquareMatrix;
 use vector::{Vector2, Vector3, Vector4};
 
@@ -67,20 +67,6 @@ impl Matrix2 {
     {
         Matrix2::from_value(value)
     }
-
-    // The array of columns, each an array of numbers.
-    pub fn into_array(self) -> [[f64; 2]; 2]
-        ensures { result ≡ array2 self }
-    {
-        [[self.x.x, self.x.y], [self.y.x, self.y.y]]
-    }
-
-    // The matrix of an array of columns.
-    pub fn from_array(m: [[f64; 2]; 2]) -> Matrix2
-        ensures { result ≡ of_array2 m }
-    {
-        Matrix2::new(m[0][0], m[0][1], m[1][0], m[1][1])
-    }
 }
 
 impl Matrix3 {
@@ -135,26 +121,6 @@ impl Matrix3 {
         ensures { result ≡ from_nonuniform_scale3 x y }
     {
         Matrix3::from_array([[x, 0.0, 0.0], [0.0, y, 0.0], [0.0, 0.0, 1.0]])
-    }
-
-    // The array of columns, each an array of numbers.
-    pub fn into_array(self) -> [[f64; 3]; 3]
-        ensures { result ≡ array3 self }
-    {
-        [
-            [self.x.x, self.x.y, self.x.z],
-            [self.y.x, self.y.y, self.y.z],
-            [self.z.x, self.z.y, self.z.z],
-        ]
-    }
-
-    // The matrix of an array of columns.
-    pub fn from_array(m: [[f64; 3]; 3]) -> Matrix3
-        ensures { result ≡ of_array3 m }
-    {
-        Matrix3::new(
-            m[0][0], m[0][1], m[0][2], m[1][0], m[1][1], m[1][2], m[2][0], m[2][1], m[2][2],
-        )
     }
 
     // A matrix of order 2 in the top left corner of the identity.
@@ -236,28 +202,6 @@ impl Matrix4 {
             [0.0, 0.0, z, 0.0],
             [0.0, 0.0, 0.0, 1.0],
         ])
-    }
-
-    // The array of columns, each an array of numbers.
-    pub fn into_array(self) -> [[f64; 4]; 4]
-        ensures { result ≡ array4 self }
-    {
-        [
-            [self.x.x, self.x.y, self.x.z, self.x.w],
-            [self.y.x, self.y.y, self.y.z, self.y.w],
-            [self.z.x, self.z.y, self.z.z, self.z.w],
-            [self.w.x, self.w.y, self.w.z, self.w.w],
-        ]
-    }
-
-    // The matrix of an array of columns.
-    pub fn from_array(m: [[f64; 4]; 4]) -> Matrix4
-        ensures { result ≡ of_array4 m }
-    {
-        Matrix4::new(
-            m[0][0], m[0][1], m[0][2], m[0][3], m[1][0], m[1][1], m[1][2], m[1][3], m[2][0],
-            m[2][1], m[2][2], m[2][3], m[3][0], m[3][1], m[3][2], m[3][3],
-        )
     }
 
     // A matrix of order 2 in the top left corner of the identity.

@@ -3,6 +3,7 @@ ghost use Rattle.std.specs.Prelude.{◌≡◌};
 ghost use Rattle.matrix.specs.Rotations.{from_angle2, from_angle_x3, from_angle_y3, from_angle_z3, from_axis_angle3};
 ghost use Rattle.matrix.specs.Rotations.{from_angle_x4, from_angle_y4, from_angle_z4, from_axis_angle4};
 
+use crate::places::Matrix;
 use crate::records::{Matrix2, Matrix3, Matrix4};
 use vector::Vector3;
 

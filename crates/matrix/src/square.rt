@@ -7,6 +7,7 @@ ghost use Rattle.matrix.specs.Records.{array2, array3, array4, of_array2, of_arr
 ghost use Rattle.matrix.specs.Records.{from_diagonal2, from_diagonal3, from_diagonal4};
 ghost use Rattle.matrix.specs.Arithmetic.{mul2, mul3, mul4, mul_vector2, mul_vector3, mul_vector4};
 
+use crate::places::Matrix;
 use crate::records::{Matrix2, Matrix3, Matrix4};
 use vector::{Vector, Vector2, Vector3, Vector4, VectorSpace};
 
