@@ -130,7 +130,7 @@ def traits(crates):
             found[trait.group(1)] = methods = {}
             for m in heads:
                 end = closing(body, m.end())
-                at, clauses = re.compile(r"[^{;]*?(?=\b(?:requires|ensures)\b|[{;])").match(body, end).end(), []
+                at, clauses = re.compile(r"(?:\[[^{}\n]*\]|[^{;])*?(?=\b(?:requires|ensures)\b|[{;])").match(body, end).end(), []
                 while c := CLAUSE.match(body, at):
                     at = closing(body, c.end())
                     clauses.append((c.group(1), body[c.end() : at - 1].strip()))
@@ -151,9 +151,9 @@ def implemented(crate, methods):
     """Each method and constant of a public trait at each record that has it: its place under proofs/, the name of its line, and what the trait says of it."""
     for path in sorted(glob.glob(f"crates/{crate}/src/**/*.rt", recursive=True)):
         module = [] if path.endswith("src/lib.rt") else path[len(f"crates/{crate}/src/") : -3].split("/")
-        for trait, record in re.findall(r"\bimpl (\w+) for (\w+)", code(path)):
+        for trait, number, record in re.findall(r"\bimpl (\w+)(?:<(\d+)>)? for (\w+)", code(path)):
             for name, said in methods.get(trait, {}).items():
-                yield path, [*module, record + trait, name], f"{record}_{name}".lower(), said
+                yield path, [*module, record + trait + number, name], f"{record}_{name}".lower(), said
 
 
 def lines(crate):

@@ -3,3 +3,4 @@ pub mod Equal
 pub mod Ranges
 pub mod Singular
 pub mod Kept
+pub mod Unique

@@ -1,94 +1,102 @@
 // Determinants and inverses: document 01, 'Modules, leaves first', 5.
-ghost use Rattle.std.specs.Prelude.{◌≡◌, ◌<◌};
+ghost use Rattle.std.specs.Prelude.{◌≡◌, ◌<◌, Float};
 ghost use Rattle.vector.specs.Arithmetic.{◌⊕◌, ◌⊖◌, ◌⊗◌};
 ghost use Rattle.vector.specs.Vectors.{entries4, of_entries3, without};
-ghost use Rattle.vector.specs.Refusals.{outcome};
+ghost use Rattle.vector.specs.Refusals.{outcome, given, after};
 ghost use Rattle.matrix.specs.Inverse.{det2, det3, det4, det_sub_proc};
-ghost use Rattle.matrix.specs.Inverse.{invert2, invert3, invert4};
+ghost use Rattle.matrix.specs.Inverse.{nonzero, inverse2, inverse3, inverse4};
 ghost use Rattle.matrix.specs.Inverse.{without_place, sign, cofactor, inverse_column};
 
 use crate::places::Matrix;
 use crate::records::{Matrix2, Matrix3, Matrix4};
 use vector::{Refusal, Vector, Vector3, Vector4, VectorSpace};
 
-impl Matrix2 {
+// Determinant and inverse, after the Rust's SquareMatrix: what is refused is said once for every order.
+pub trait Invert: Copy {
+    ghost determinant: { Self → Float };
+
+    ghost inverse: { Self → Float → Self };
+
     // The determinant.
-    pub fn determinant(self) -> f64
-        ensures { result ≡ det2 self }
-    {
-        self.x.x * self.y.y - self.y.x * self.x.y
-    }
+    fn determinant(self) -> f64
+        ensures { result ≡ determinant self };
+
+    // The inverse by this determinant; whatever it is, what the float operations give.
+    fn inverse_by(self, det: f64) -> Self
+        ensures { result ≡ inverse self det };
 
     // The inverse, or refusal 2 where the determinant compares equal to zero.
-    pub fn invert(self) -> Result<Matrix2, Refusal>
-        ensures { outcome result ≡ invert2 self }
+    fn invert(self) -> Result<Self, Refusal>
+        ensures { outcome result ≡ after (nonzero (determinant self)) (given (inverse self (determinant self))) }
     {
         let det = self.determinant();
         if det == 0.0 {
             return Err(Refusal::Singular);
         }
-        Ok(Matrix2::new(
+        Ok(self.inverse_by(det))
+    }
+}
+
+impl Invert for Matrix2 {
+    ghost determinant = { det2 };
+
+    ghost inverse = { inverse2 };
+
+    fn determinant(self) -> f64 {
+        self.x.x * self.y.y - self.y.x * self.x.y
+    }
+
+    fn inverse_by(self, det: f64) -> Matrix2 {
+        Matrix2::new(
             self.y.y / det,
             -self.x.y / det,
             -self.y.x / det,
             self.x.x / det,
-        ))
+        )
     }
 }
 
-impl Matrix3 {
-    // The determinant.
-    pub fn determinant(self) -> f64
-        ensures { result ≡ det3 self }
-    {
+impl Invert for Matrix3 {
+    ghost determinant = { det3 };
+
+    ghost inverse = { inverse3 };
+
+    fn determinant(self) -> f64 {
         self.x.x * (self.y.y * self.z.z - self.z.y * self.y.z)
             - self.y.x * (self.x.y * self.z.z - self.z.y * self.x.z)
             + self.z.x * (self.x.y * self.y.z - self.y.y * self.x.z)
     }
 
-    // The inverse, or refusal 2 where the determinant compares equal to zero.
-    pub fn invert(self) -> Result<Matrix3, Refusal>
-        ensures { outcome result ≡ invert3 self }
-    {
-        let det = self.determinant();
-        if det == 0.0 {
-            return Err(Refusal::Singular);
-        }
+    fn inverse_by(self, det: f64) -> Matrix3 {
         let rows = Matrix3::from_cols(
             self.y.cross(self.z).div_scalar(det),
             self.z.cross(self.x).div_scalar(det),
             self.x.cross(self.y).div_scalar(det),
         );
-        Ok(rows.transpose())
+        rows.transpose()
     }
 }
 
-impl Matrix4 {
-    // The determinant.
-    pub fn determinant(self) -> f64
-        ensures { result ≡ det4 self }
-    {
+impl Invert for Matrix4 {
+    ghost determinant = { det4 };
+
+    ghost inverse = { inverse4 };
+
+    fn determinant(self) -> f64 {
         // Column r of the transpose is row r.
         let rows = self.transpose();
         det_sub_proc(rows.y, rows.z, rows.w).dot(rows.x)
     }
 
-    // The inverse, or refusal 2 where the determinant compares equal to zero.
-    pub fn invert(self) -> Result<Matrix4, Refusal>
-        ensures { outcome result ≡ invert4 self }
-    {
-        let det = self.determinant();
-        if det == 0.0 {
-            return Err(Refusal::Singular);
-        }
+    fn inverse_by(self, det: f64) -> Matrix4 {
         let inv_det = 1.0 / det;
         let t = self.transpose();
-        Ok(Matrix4::from_cols(
+        Matrix4::from_cols(
             inverse_column(t, inv_det, 0),
             inverse_column(t, inv_det, 1),
             inverse_column(t, inv_det, 2),
             inverse_column(t, inv_det, 3),
-        ))
+        )
     }
 }
 

@@ -10,6 +10,7 @@ pub mod records;
 pub mod rotations;
 pub mod square;
 
+pub use inverse::Invert;
 pub use places::{Column, Matrix, Row};
 pub use records::{Matrix2, Matrix3, Matrix4};
 pub use square::SquareMatrix;

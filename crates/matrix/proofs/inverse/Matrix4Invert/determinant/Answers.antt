@@ -1,6 +1,6 @@
 -- What the callees answered makes the definition's dot. Assumes nothing.
 use Rattle.matrix.specs.Inverse.{det4}
-use Rattle.matrix.proofs.records.Matrix4.determinant.Goals as goal
+use Rattle.matrix.proofs.inverse.Matrix4Invert.determinant.Goals as goal
 
 pub returns : goal.returns
 unfolding det4

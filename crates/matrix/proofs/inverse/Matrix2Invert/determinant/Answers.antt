@@ -1,8 +1,8 @@
 -- The code computes the definition's own formula. Assumes nothing.
 use Rattle.std.proofs.Common.{refl}
-use Rattle.matrix.specs.Inverse.{det3}
-use Rattle.matrix.proofs.records.Matrix3.determinant.Goals as goal
+use Rattle.matrix.specs.Inverse.{det2}
+use Rattle.matrix.proofs.inverse.Matrix2Invert.determinant.Goals as goal
 
 pub returns : goal.returns
-unfolding det3
+unfolding det2
 returns c = refl
