@@ -1,6 +1,6 @@
 -- What 64 bits keep of a signed number.
 -- Assumes nothing.
-use Rattle.std.proofs.Common.{◌≡◌, ℕ, ◌^◌, ◌<◌, ◌≤◌, Bool, true, false, ◌&&◌, ℤ, pos, negsuc, nat_abs, refl, ◌∙◌, le_trans, le_refl, lt_of_le_of_lt, w64, SFits, to_z, of_z}
+use Rattle.std.proofs.Common.{◌≡◌, ℕ, ◌^◌, ◌<◌, ◌≤◌, ℤ, pos, negsuc, nat_abs, le_trans, le_refl, lt_of_le_of_lt, w64, SFits, to_z, of_z}
 use native.Mathlib.Nat.{le-suc}
 use lib.Signed.{mag}
 use mir.ValLaws.{to_z-of_z}

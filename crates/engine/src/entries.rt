@@ -21,7 +21,7 @@ impl Whole {
     ghost use Rattle.engine.specs.Tested.{Reads};
 
     // The whole numbers of the matrix, or refusal 6.
-    #[tactic(auto, using(crate::proofs::Outcomes::numbers_small, crate::proofs::Outcomes::array_numbers))]
+    #[tactic(auto, using(crate::proofs::Outcomes::array_numbers))]
     pub(crate) fn read<M: Square>(m: M) -> Result<Whole, Refusal>
         ensures { Reads M.ORDER (M.floats m) result }
     {
@@ -40,6 +40,7 @@ fn is_whole(x: f64) -> bool
 }
 
 // The whole number that the entry is, -0.0 being 0, or refusal 6.
+#[tactic(auto, using(crate::proofs::Taken::cut_above, crate::proofs::Taken::cut_under))]
 fn whole_number(x: f64) -> Result<i64, Refusal>
     ensures { Tested (is_whole 1024 x) (whole_number x) result }
 {

@@ -11,6 +11,7 @@ use crate::square::Square;
 use vector::Refusal;
 
 // The signed sum, or refusal 6.
+#[tactic(auto, using(crate::proofs::Outcomes::same_sum), unfolding(crate::specs::Engine::taken))]
 pub fn signed_sum<M: Square>(m: M) -> Result<i64, Refusal>
     ensures { outcome result ≡ signed_sum 1024 M.ORDER (M.floats m) }
 {
