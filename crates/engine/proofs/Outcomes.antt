@@ -56,4 +56,3 @@ cofactor_ext zero some m w same c r h l = absurd (lt_irrefl 0 some)
 cofactor_ext (suc n) some m w same c r h l =
     let less : suc n - 1 ≡ n = omega arith in
     rw less (expansion_cofactor_ext n m w same c r (le_of_suc-le-suc h) (le_of_suc-le-suc l))
-

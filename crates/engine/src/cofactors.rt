@@ -40,6 +40,7 @@ impl Whole {
         ensures order { result.order ≡ self.now.order - 1 }
         ensures entries { Alike 3 (wholes result.numbers) (minor c r (wholes self.now.numbers)) }
     {
+        // Column by column: what `map` promises of a closure that holds r leaves open which r each call had.
         let kept = without(self.numbers, c);
         Whole {
             numbers: [
@@ -57,7 +58,12 @@ impl Whole {
 fn without<T: Copy>(list: [T; 4], n: usize) -> [T; 4]
     ensures { (past : T) → result ≡ without past n list }
 {
-    [list[kept(n, 0)], list[kept(n, 1)], list[kept(n, 2)], list[3]]
+    [
+        list[kept(n, 0)],
+        list[kept(n, 1)],
+        list[kept(n, 2)],
+        list[3],
+    ]
 }
 
 // The j-th of the numbers other than n, for the first three.

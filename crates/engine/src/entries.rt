@@ -26,7 +26,10 @@ impl Whole {
         ensures { Reads M.ORDER (M.floats m) result }
     {
         let numbers = matrix_numbers(m.cornered())?;
-        Ok(Whole { numbers, order: M::ORDER })
+        Ok(Whole {
+            numbers,
+            order: M::ORDER,
+        })
     }
 }
 
@@ -51,7 +54,7 @@ fn whole_number(x: f64) -> Result<i64, Refusal>
     }
 }
 
-// The whole numbers of a column.
+// The whole numbers of a column. By name, here and in the next: `try_map` promises of each call apart, and would want an answer file where these want none.
 fn column_numbers(v: Vector4) -> Result<[i64; 4], Refusal>
     ensures { Tested (all_below 4 (λ i. is_whole 1024 (entry (entries4 v) i))) (map whole_number (entries4 v)) result }
 {

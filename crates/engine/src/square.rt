@@ -10,10 +10,13 @@ use matrix::{Matrix2, Matrix3, Matrix4};
 
 // A matrix of an order up to 4.
 pub trait Square: Copy {
+    // The order that the constant has.
     ghost ORDER: { ℕ };
 
+    // The entries, m[c][r].
     ghost floats: { Self → Floats };
 
+    // The matrix that the method gives.
     ghost cornered: { Self → Matrix4 };
 
     // How many rows and columns it has.
