@@ -73,7 +73,7 @@ Tested test a answer = MatchResult answer (λ b. (test ≡ true) × (b ≡ a)) (
 abbrev pub Alike : {A : Type 0} → ℕ → (ℕ → ℕ → A) → (ℕ → ℕ → A) → Type 0
 Alike n e d = (c r : ℕ) → c < n → r < n → e c r ≡ d c r
 
--- e, at order 4, has d at the order n in its top left corner, and besides it what the test passes
+-- e, at order 4, has d at the order n in its top left corner, and what stands besides is taken: the test finds of e what it finds of d
 abbrev pub Corner : ℕ → Floats → Floats → Type 0
 Corner n d e = (whole_entries 1024 4 e ≡ whole_entries 1024 n d) × Alike n e d
 
