@@ -5,7 +5,8 @@ Usage: tools/unique.py [-q]
 
 The lines stand in proofs/Unique.antt of each library crate, and the gate proves them. A line has the name of its
 function, behind its type's where it is a method, as `matrix2_order`; where a definition has that name, the line has
-`_lem` at its end, as `move_vectors_lem`. The methods and the constants of a public trait have a line for each record. This script checks that none is missing. It fails where a public function has
+`_lem` at its end, as `move_vectors_lem`. The methods and the constants of a public trait have a line for each record;
+a generic function has one for every type, and may have more, each at one type. This script checks that none is missing. It fails where a public function has
 no line, or a line that speaks of another promise; where parameters are lent by `&mut` and the line leaves one of them
 out; where a public function has a `requires`, other than that its closure may be called; where it can't read a public function; and where it finds none at all, or no
 export.
@@ -19,7 +20,7 @@ import re
 import sys
 
 WORDS = ["Decided", "DecidedLent", "DecidedWhere"]
-PUBLIC = re.compile(r"\bpub\s+(?:extern\s+\"\"\s+)?fn\s+(\w+)\s*(?:<[^>]*>\s*)?\(")
+PUBLIC = re.compile(r"\bpub\s+(?:extern\s+\"\"\s+)?fn\s+(\w+)\s*(<[^>]*>\s*)?\(")
 CLAUSE = re.compile(r"\s*(requires|ensures)\b[^{]*\{")
 RESULT = re.compile(r"[^{]*?(?=\b(?:requires|ensures)\b|\{)")
 # a method of a trait, and the parameters of its closure, if it takes one
@@ -89,7 +90,7 @@ def parameters(text):
 
 
 def functions(crate):
-    """Each public function: its place under proofs/, the name of its line, its parameters, and whether it has a `requires`."""
+    """Each public function: its place under proofs/, the name of its line, its parameters, whether it has type parameters, and whether it has a `requires`."""
     sources = {path: code(path) for path in sorted(glob.glob(f"crates/{crate}/src/**/*.rt", recursive=True))}
     module = {p: [] if p.endswith("src/lib.rt") else p[len(f"crates/{crate}/src/") : -3].split("/") for p in sources}
     declared = {}
@@ -114,7 +115,9 @@ def functions(crate):
                 sys.exit(f"{path}: can't read {name}")
             place = [*(owner[0] if owner else module[path]), name]
             line = "_".join(place[-2:] if owner else place[-1:]).lower()
-            yield path, place, line, taken, "requires" in clauses
+            # a type parameter: the line stands for every type and what its bounds bring
+            generic = any(not re.match(r"'|const\b", p) for p in parameters((m.group(2) or "").strip()[1:-1]))
+            yield path, place, line, taken, generic, "requires" in clauses
 
 
 def traits(crates):
@@ -170,18 +173,24 @@ def lines(crate):
                 names[other or full.split(".")[-1]] = full
         for name, type_ in re.findall(r"^pub (\w+) : (.*(?:\n[ ]+.*)*)", text, re.M):
             # the type of what is lent, which the checker wants to be told where there are two
-            # and before it what a closure brings
+            # and before it what a closure or a type parameter brings
             word, *rest = re.split(r"\s+", re.sub(r"^(?:\([^()]* : _\)\s+)+→\s+|\{L = [^{}]*\}\s+", "", type_))
+            # a promise at whatever its type parameters bring
+            brought = re.match(r"\(([^()]*) : _\)", type_)
+            if brought and brought.group(1).split() == " ".join(rest[1:]).rstrip(")").split():
+                rest = [rest[0], "..)"]
             if word in WORDS:
                 spelt = [re.sub(r"^(\(?)([^\s.()]+)(?=[.])", lambda m: m.group(1) + names.get(m.group(2), m.group(2)), r) for r in rest]
                 found[name] = (names.get(word, word), " ".join(spelt))
     return found
 
 
-def wanted(crate, place, taken):
+def wanted(crate, place, taken, generic):
     """The type that says it of this function, over its promise."""
     promise = f"Rattle.{crate}.proofs.{'.'.join(place)}.Reads.Learnt"
     lent = ["s" + ".1" * i + ".0.now" for i, p in enumerate(taken) if re.search(r"&\s*(?:'\w+\s+)?mut\b", p)]
+    if generic:
+        promise = f"({promise} ..)"
     if not lent:
         return ("Rattle.vector.proofs.Decided.Decided", promise)
     at_exit = f"(λ κ s. {lent[0] if len(lent) == 1 else '(' + ', '.join(lent) + ')'})"
@@ -203,7 +212,7 @@ def main():
     exports = sum(len(promised(crate)) for crate in of_exports)
     for crate in of_libraries:
         said, known = lines(crate), set()
-        listed = [(path, place, line, wanted(crate, place, taken), requires) for path, place, line, taken, requires in functions(crate)]
+        listed = [(path, place, line, wanted(crate, place, taken, generic), requires) for path, place, line, taken, generic, requires in functions(crate)]
         listed += [(path, place, line, wanted_at(crate, place, taken), asks) for path, place, line, (taken, asks) in implemented(crate, of_traits)]
         for path, place, line, want, requires in listed:
             total += 1
@@ -219,7 +228,9 @@ def main():
                 bad.append(f"{path}: {place[-1]} has no line {line} in proofs/Unique.antt")
             elif said[line] != want:
                 bad.append(f"{path}: the line {line} says another thing: {' '.join(said[line])}")
-        bad += [f"{crate}: the line {line} is of no public function" for line in said if line not in known]
+        # a generic function's line can stand again at one type
+        generic = tuple(want[1].removesuffix("..)") for *_, want, _ in listed if want[1].endswith(" ..)"))
+        bad += [f"{crate}: the line {line} is of no public function" for line in said if line not in known and not said[line][1].startswith(generic)]
     for line in bad:
         print("LOOSE:", line)
     print(f"{total} public functions, {exports} exports, {len(bad)} faults")

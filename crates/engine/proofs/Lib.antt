@@ -5,6 +5,7 @@ pub mod Table
 pub mod Products
 pub mod Turns
 pub mod Minors
+pub mod Corners
 pub mod Outcomes
 pub mod Bits
 pub mod Fractions

@@ -1,18 +1,18 @@
 -- The minors: the numbers other than one, a matrix without a column and a row, the sign of a place, and how large a minor is.
 -- Assumes nothing.
-use Rattle.std.proofs.Common.{◌≡◌, ℕ, zero, suc, ◌+◌, ◌-◌, ◌*◌, ◌%◌, ◌^◌, ◌<◌, ◌≤◌, List, [], get_or, ℤ, pos, negsuc, ◌-ℤ◌, ◌*ℤ◌, neg_ℤ, nat_abs, sym, refl, ap, ◌∙◌, subst, ap₂, suc-le-suc, le_trans, lt_of_lt_of_le, le_of_suc-le-suc, not-suc-le-zero, mul-le-mul, arith, lit<, w64, SFits, to_z, of_z}
+use Rattle.std.proofs.Common.{◌≡◌, ℕ, zero, suc, ◌+◌, ◌-◌, ◌*◌, ◌%◌, ◌^◌, ◌<◌, ◌≤◌, List, [], ◌∷◌, get_or, ℤ, pos, negsuc, ◌-ℤ◌, ◌*ℤ◌, neg_ℤ, nat_abs, sym, refl, ap, ◌∙◌, subst, ap₂, suc-le-suc, le_trans, le_refl, lt_of_lt_of_le, le_of_suc-le-suc, not-suc-le-zero, mul-le-mul, arith, lit<, lit≤, w64, SFits, to_z, of_z}
 use lib.IntN.{neg_ℤ-neg_ℤ, +ℤ_idl}
 use Rattle.whole.specs.Matrix.{Matrix}
 use Rattle.whole.specs.Order.{parity, skip, exact_signed_sum}
 use Rattle.whole.proofs.Ring.{one_mul, neg_mul, abs_neg}
 use Rattle.whole.proofs.Parity.{parity_add}
-use Rattle.whole.proofs.Skip.{skip_le}
 use Rattle.whole.proofs.Expansion.{signed_sum_ext}
 use Rattle.whole.proofs.Bounds.{signed_sum_le}
-use Rattle.engine.specs.Whole.{wholes, Small}
+use Rattle.engine.specs.Whole.{wholes, Small, Alike, without, minor}
+use Rattle.engine.proofs.Places.{below_four}
 use Rattle.engine.specs.Engine.{cofactor_of}
 use Rattle.engine.proofs.Signed.{small_fits, small_back}
-use Rattle.engine.proofs.Table.{few_rows, power_le}
+use Rattle.engine.proofs.Table.{few_rows, power_le, small_below}
 
 -- ---- the numbers other than n
 
@@ -28,57 +28,68 @@ skip_high zero j h = refl
 skip_high (suc n) zero h = absurd (not-suc-le-zero h)
 skip_high (suc n) (suc j) h = ap suc (skip_high n j (le_of_suc-le-suc h))
 
--- ---- one element read
+-- they are one more at most
+skip_most : (n j : ℕ) → skip n j ≤ suc j
+skip_most zero j = le_refl (suc j)
+skip_most (suc n) zero = lit≤ tt
+skip_most (suc n) (suc j) = suc-le-suc (skip_most n j)
 
--- the element at a place that was worked out
-pub element : (column : List ℤ) (k r s : ℕ) → ((i : ℕ) → i < 4 → nat_abs (get_or column i (pos 0)) ≤ 1024) → (k ≡ skip r s) × (k < 4) → to_z w64 (of_z w64 (get_or column k (pos 0))) ≡ get_or column (skip r s) (pos 0)
-element column k r s small is = small_back (get_or column k (pos 0)) (small k is.1) (lit< tt) ∙ ap (λ (i : ℕ). get_or column i (pos 0)) is.0
+-- ---- a list of four without one element
 
--- an element of a column that was worked out
-pub place : (m : List (List ℤ)) (w : List ℤ) (k c d r s : ℕ) → get_or w s (pos 0) ≡ get_or (get_or m k []) (skip r s) (pos 0) → k ≡ skip c d → get_or w s (pos 0) ≡ wholes m (skip c d) (skip r s)
-place m w k c d r s kept is = kept ∙ ap (λ (i : ℕ). get_or (get_or m i []) (skip r s) (pos 0)) is
+-- the place that each element had
+abbrev place : ℕ → ℕ → ℕ
+place n zero = skip n 0
+place n (suc zero) = skip n 1
+place n (suc (suc zero)) = skip n 2
+place n (suc (suc (suc i))) = 3
+
+-- it is a place of the list
+place_lt : (n i : ℕ) → place n i < 4
+place_lt n zero = suc-le-suc (le_trans (skip_most n 0) (lit≤ tt))
+place_lt n (suc zero) = suc-le-suc (le_trans (skip_most n 1) (lit≤ tt))
+place_lt n (suc (suc zero)) = suc-le-suc (skip_most n 2)
+place_lt n (suc (suc (suc i))) = lit< tt
+
+-- and its element stands there
+without_at : {A : Type 0} (past : A) (list : List A) (n i : ℕ) → i < 4 → get_or (without past n list) i past ≡ get_or list (place n i) past
+without_at past list n = below_four (λ i. get_or (without past n list) i past ≡ get_or list (place n i) past) refl refl refl refl
+
+-- so small numbers stay small: kept are the columns without column c, and x, y, z, w each of them without element r
+module _ (m kept : List (List ℤ)) (c r : ℕ) (small : Small 4 (wholes m)) (kept-is : kept ≡ without [] c m) where
+  column_small : (k : ℕ) → k < 4 → (x : List ℤ) → x ≡ without (pos 0) r (get_or kept k []) → (j : ℕ) → j < 4 → nat_abs (get_or x j (pos 0)) ≤ 1024
+  column_small k h x is j l =
+      rw (is, without_at (pos 0) (get_or kept k []) r j l, kept-is, without_at [] m c k h) (small (place c k) (place r j) (place_lt c k) (place_lt r j))
+
+  pub kept_small : {x y z w : List ℤ} → x ≡ without (pos 0) r (get_or kept 0 []) → y ≡ without (pos 0) r (get_or kept 1 []) → z ≡ without (pos 0) r (get_or kept 2 []) → w ≡ without (pos 0) r (get_or kept 3 []) → Small 4 (wholes (x ∷ y ∷ z ∷ w ∷ []))
+  kept_small {x = x} {y = y} {z = z} {w = w} p q s t i j h l =
+      below_four (λ i. nat_abs (wholes (x ∷ y ∷ z ∷ w ∷ []) i j) ≤ 1024) (column_small 0 (lit< tt) x p j l) (column_small 1 (lit< tt) y q j l) (column_small 2 (lit< tt) z s j l) (column_small 3 (lit< tt) w t j l) i h
 
 -- ---- the minor
 
--- a smaller order has small entries too
-pub small_below : (k n : ℕ) (m : Matrix) → k ≤ n → Small n m → Small k m
-small_below k n m h small c r a b = small c r (lt_of_lt_of_le a h) (lt_of_lt_of_le b h)
+-- the matrix without a column and a row, as it was answered, and its order
+module _ (n k : ℕ) (few : n ≤ 4) (m w : Matrix) (c r : ℕ) (less : k ≡ n - 1) (small : Small 4 w) (is : Alike 3 w (minor c r m)) where
+  -- it has at most three columns
+  three : n - 1 ≤ 3
+  three = omega (arith, few)
 
--- the matrix without a column and a row, as it was answered
-module _ (n : ℕ) (few : n ≤ 4) (m w : Matrix) (c r : ℕ) (hc : c < n) (hr : r < n) (small : Small 4 m)
-    (is : (d s : ℕ) → d < 3 → s < 3 → w d s ≡ m (skip c d) (skip r s)) where
-  -- below the order less one its entries are those of m
-  inner : (d s : ℕ) → d < n - 1 → s < n - 1 → w d s ≡ m (skip c d) (skip r s)
-  inner d s a b = is d s (omega arith) (omega arith)
-
-  -- and small
-  pub minor_small : Small (n - 1) w
-  minor_small d s a b =
-      subst (λ (z : ℤ). nat_abs z ≤ 1024) (sym (inner d s a b))
-      (small (skip c d) (skip r s) (lt_of_lt_of_le (suc-le-suc (skip_le (n - 1) c d (omega arith) a)) (omega arith)) (lt_of_lt_of_le (suc-le-suc (skip_le (n - 1) r s (omega arith) b)) (omega arith)))
-
-  -- the minor
-  abbrev minor : ℤ
-  minor = exact_signed_sum (n - 1) w
-
-  -- it is that of m
-  minor_is : minor ≡ exact_signed_sum (n - 1) (λ d s. m (skip c d) (skip r s))
-  minor_is = signed_sum_ext (n - 1) w (λ d s. m (skip c d) (skip r s)) inner
+  -- its sum is that of m
+  sum_is : exact_signed_sum k w ≡ exact_signed_sum (n - 1) (minor c r m)
+  sum_is = rw less (signed_sum_ext (n - 1) w (minor c r m) (λ d s a b. is d s (lt_of_lt_of_le a three) (lt_of_lt_of_le b three)))
 
   -- it is at most 24 * 2 ^ 40
-  minor_le : nat_abs minor ≤ 24 * 2 ^ 40
-  minor_le = let h : n - 1 ≤ 4 = omega arith in le_trans (signed_sum_le 1024 (n - 1) w minor_small) (mul-le-mul (few_rows (n - 1) h) (power_le (n - 1) h))
+  sum_le : nat_abs (exact_signed_sum k w) ≤ 24 * 2 ^ 40
+  sum_le = let h : k ≤ 4 = rw less (le_trans three (lit≤ tt)) in le_trans (signed_sum_le 1024 k w (small_below k w h small)) (mul-le-mul (few_rows k h) (power_le k h))
 
   -- ---- its sign
   -- the sum z as it was answered, and its negative as the code makes it
-  module _ (z : ℤ) (z-is : z ≡ minor) where
+  module _ (z : ℤ) (z-is : z ≡ exact_signed_sum k w) where
     -- the negative
     abbrev pub negative : ℤ
     negative = pos 0 -ℤ to_z w64 (of_z w64 z)
 
     -- the sum is small
     z_le : nat_abs z ≤ 24 * 2 ^ 40
-    z_le = subst (λ (z : ℤ). nat_abs z ≤ 24 * 2 ^ 40) (sym z-is) minor_le
+    z_le = subst (λ (z : ℤ). nat_abs z ≤ 24 * 2 ^ 40) (sym z-is) sum_le
 
     -- the code's negative is the negative
     negative_is : negative ≡ neg_ℤ z
@@ -109,9 +120,9 @@ module _ (n : ℕ) (few : n ≤ 4) (m w : Matrix) (c r : ℕ) (hc : c < n) (hr :
         ap (λ (v : ℤ). to_z w64 (of_z w64 v)) negative_is
         ∙ small_back (neg_ℤ z) negative_le (lit< tt)
         ∙ sym (neg_mul (pos 1) z ∙ ap neg_ℤ (one_mul z))
-        ∙ ap₂ (λ (u v : ℤ). u *ℤ v) (sym (odd (c + r) h) ∙ parity_add c r) (z-is ∙ minor_is)
+        ∙ ap₂ (λ (u v : ℤ). u *ℤ v) (sym (odd (c + r) h) ∙ parity_add c r) (z-is ∙ sum_is)
 
     -- at an even place it is the minor
     pub even_place : ((c + r) % 2 ≡ 1 → ⊥) → to_z w64 (of_z w64 z) ≡ cofactor_of n m c r
     even_place h =
-        small_back z z_le (lit< tt) ∙ sym (one_mul z) ∙ ap₂ (λ (u v : ℤ). u *ℤ v) (sym (even (c + r) h) ∙ parity_add c r) (z-is ∙ minor_is)
+        small_back z z_le (lit< tt) ∙ sym (one_mul z) ∙ ap₂ (λ (u v : ℤ). u *ℤ v) (sym (even (c + r) h) ∙ parity_add c r) (z-is ∙ sum_is)

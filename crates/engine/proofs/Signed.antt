@@ -1,11 +1,9 @@
--- What 64 bits keep of a signed number, and four tests one after the other.
+-- What 64 bits keep of a signed number.
 -- Assumes nothing.
-use Rattle.std.proofs.Common.{◌≡◌, ℕ, ◌^◌, ◌<◌, ◌≤◌, Bool, true, false, ◌&&◌, ℤ, pos, negsuc, nat_abs, refl, ◌∙◌, le_trans, le_refl, lt_of_le_of_lt, w64, SFits, to_z, of_z}
+use Rattle.std.proofs.Common.{◌≡◌, ℕ, ◌^◌, ◌<◌, ◌≤◌, ℤ, pos, negsuc, nat_abs, le_trans, le_refl, lt_of_le_of_lt, w64, SFits, to_z, of_z}
 use native.Mathlib.Nat.{le-suc}
 use lib.Signed.{mag}
 use mir.ValLaws.{to_z-of_z}
-
--- ---- signed numbers
 
 -- a number within the range is read back from its bits
 pub back : (z : ℤ) → mag z < 2 ^ 63 → to_z w64 (of_z w64 z) ≡ z
@@ -23,14 +21,3 @@ small_fits z h l = record { sfits = lt_of_le_of_lt (le_trans (mag_le z) h) l }
 -- and is read back
 pub small_back : (z : ℤ) {b : ℕ} → nat_abs z ≤ b → b < 2 ^ 63 → to_z w64 (of_z w64 z) ≡ z
 small_back z h l = to_z-of_z w64 z (small_fits z h l)
-
--- ---- tests
-
--- a test with nothing after it
-and_true : (b : Bool) → b ≡ b && true
-and_true true = refl
-and_true false = refl
-
--- after three tests that pass the fourth decides
-pub fourth_decides : {a b c d r : Bool} → a ≡ true → b ≡ true → c ≡ true → r ≡ d → r ≡ a && (b && (c && (d && true)))
-fourth_decides {d = d} p q s e = rw (p, q, s) (e ∙ and_true d)

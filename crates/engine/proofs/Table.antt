@@ -1,6 +1,6 @@
 -- The table holds each order of n columns exactly once, missing none, with its right sign: one test over the table that computes, and the law that turns it into the rule.
 -- Then what one turn of the sum's loop adds, and how large its parts can be. Assumes nothing.
-use Rattle.std.proofs.Common.{◌≡◌, ℕ, zero, suc, ◌*◌, ◌^◌, ◌<◌, ◌≤◌, T, List, [], ◌∷◌, length, get_or, take, ℤ, pos, ◌+ℤ◌, ◌*ℤ◌, nat_abs, sym, refl, ap, ◌∙◌, subst, le_trans, le_of_eq, le_refl, le_of_suc-le-suc, not-suc-le-zero, mul-le-mul, lit≤, take_all, get_or-take, take-suc}
+use Rattle.std.proofs.Common.{◌≡◌, ℕ, zero, suc, ◌*◌, ◌^◌, ◌<◌, ◌≤◌, T, List, [], ◌∷◌, length, get_or, take, ℤ, pos, ◌+ℤ◌, ◌*ℤ◌, nat_abs, sym, refl, ap, ◌∙◌, subst, le_trans, le_of_eq, le_refl, le_of_suc-le-suc, not-suc-le-zero, lt_of_lt_of_le, mul-le-mul, lit≤, take_all, get_or-take, take-suc}
 use mathlib.Core.List.Memᴰ
 use mathlib.Core.List.{Memᴰ}
 use lib.ListN.{get_or-map}
@@ -14,6 +14,7 @@ use Rattle.whole.proofs.Lists.{all_at, all_get_d, all_of}
 use Rattle.whole.proofs.Sum.{sum_over_append}
 use Rattle.whole.proofs.Bounds.{row_le, rows_le}
 use Rattle.whole.proofs.Table.{holds_parts, part_orders, part_total}
+use Rattle.engine.specs.declared.orders.Order.{Order as Row}
 use Rattle.engine.specs.Orders.{row, rows, order_at, as_row, table, TableHolds, HoldsAll}
 use Rattle.engine.specs.Whole.{Small}
 
@@ -63,6 +64,18 @@ all_rows n few m k all =
 pub few_rows : (n : ℕ) → n ≤ 4 → factorial n ≤ 24
 few_rows = up_to_four (λ n. factorial n ≤ 24) (lit≤ tt) (lit≤ tt) (lit≤ tt) (lit≤ tt) (lit≤ tt)
 
+-- the rows that the code is handed: n! of them,
+pub handed_count : (n : ℕ) → n ≤ 4 → {items : List Row} → items ≡ take (factorial n) rows → length items ≡ factorial n
+unfolding rows
+handed_count n few is = ap length is ∙ up_to_four (λ n. length (take (factorial n) rows) ≡ factorial n) refl refl refl refl refl n few
+
+pub handed_inside : (n : ℕ) → n ≤ 4 → {i : ℕ} {items : List Row} → items ≡ take (factorial n) rows → i < length items → i < factorial n
+handed_inside n few is h = lt_of_lt_of_le h (le_of_eq (handed_count n few is))
+
+-- and each is the table's
+pub handed_row : (n i : ℕ) → {items : List Row} → items ≡ take (factorial n) rows → i < factorial n → get_or items i (row [] (pos 0)) ≡ order_at i
+handed_row n i is h = ap (λ (items : List Row). get_or items i (row [] (pos 0))) is ∙ get_or-take (factorial n) rows i (row [] (pos 0)) h
+
 -- a product of n numbers up to 1024 is at most 2 ^ 40
 pub power_le : (n : ℕ) → n ≤ 4 → 1024 ^ n ≤ 2 ^ 40
 power_le = up_to_four (λ n. 1024 ^ n ≤ 2 ^ 40) (lit≤ tt) (lit≤ tt) (lit≤ tt) (lit≤ tt) (lit≤ tt)
@@ -77,11 +90,15 @@ part_row n i h =
     get_or-map (first n) (take (factorial n) table) i ([], pos 0)
     ∙ ap (first n) (get_or-take (factorial n) table i ([], pos 0) h ∙ get_or-map as_row rows i (row [] (pos 0)))
 
--- a matrix with small entries below the order n
-module _ (n : ℕ) (few : n ≤ 4) (m : Matrix) (small : Small n m) where
+-- a smaller order has small entries too
+pub small_below : (n : ℕ) (m : Matrix) → n ≤ 4 → Small 4 m → Small n m
+small_below n m h small c r a b = small c r (lt_of_lt_of_le a h) (lt_of_lt_of_le b h)
+
+-- a matrix with small entries
+module _ (n : ℕ) (few : n ≤ 4) (m : Matrix) (small : Small 4 m) where
   -- no partial sum passes 24 * 2 ^ 40
   pub partial_le : (k : ℕ) → k ≤ 24 → nat_abs (table_sum m (take k (part n table))) ≤ 24 * 2 ^ 40
-  partial_le k h = le_trans (rows_le 1024 n m small (part n table) (orders_held n few) k) (mul-le-mul h (power_le n few))
+  partial_le k h = le_trans (rows_le 1024 n m (small_below n m few small) (part n table) (orders_held n few) k) (mul-le-mul h (power_le n few))
 
   -- a row of the table
   module _ (i : ℕ) (inside : i < factorial n) where
@@ -105,7 +122,7 @@ module _ (n : ℕ) (few : n ≤ 4) (m : Matrix) (small : Small n m) where
 
     -- and its term is at most 2 ^ 40
     pub term_le : nat_abs term ≤ 2 ^ 40
-    term_le = of_row (λ row. nat_abs (row.1 *ℤ down_rows m (columns row)) ≤ 2 ^ 40) (λ row at. le_trans (row_le 1024 n m small (part n table) (orders_held n few) row at) (power_le n few))
+    term_le = of_row (λ row. nat_abs (row.1 *ℤ down_rows m (columns row)) ≤ 2 ^ 40) (λ row at. le_trans (row_le 1024 n m (small_below n m few small) (part n table) (orders_held n few) row at) (power_le n few))
 
     -- one row more adds its term
     pub one_more : table_sum m (take (suc i) (part n table)) ≡ table_sum m (take i (part n table)) +ℤ term

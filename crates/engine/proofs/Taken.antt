@@ -153,6 +153,12 @@ outside x none = by_test (is_whole 1024 x) (λ t. none (whole_between x ((whole_
 pub taken_reached : (x : Float) → T (is_whole 1024 x) → Reached x
 taken_reached x t = reached x (whole_between x ((whole_entry 1024 x (lit< tt)).0 t))
 
+pub cut_above : (x : Float) → is_whole 1024 x ≡ true → T (le (fin true 1 (pos 63)) x)
+cut_above x passed = (taken_reached x (subst T (sym passed) tt)).above
+
+pub cut_under : (x : Float) → is_whole 1024 x ≡ true → T (lt x (fin false 1 (pos 63)))
+cut_under x passed = (taken_reached x (subst T (sym passed) tt)).under
+
 -- ---- both sides of each edge
 
 -- 1024, -1024, 0.0 and -0.0 are taken

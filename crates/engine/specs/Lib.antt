@@ -1,4 +1,5 @@
 pub mod Whole
+pub mod Tested
 pub mod Orders
 pub mod Engine
 pub mod Demand

@@ -1,9 +1,12 @@
 -- Document 01, 'The exact engine': which entries are taken, and as which whole numbers.
 -- One test says it, at each place below the order. Assumes nothing.
-use Rattle.std.specs.Prelude.{ℕ, zero, suc, ◌<◌, ◌≤◌, Bool, true, ◌&&◌, List, [], ℤ, pos, nat_le, slice_index_or, unsigned_abs, Float}
+use Rattle.std.specs.Prelude.{◌≡◌, ℕ, zero, suc, ◌<◌, ◌≤◌, Bool, true, false, ◌&&◌, Result, MatchResult, List, [], ◌∷◌, ℤ, pos, nat_le, slice_index_or, unsigned_abs, Float}
 use Rattle.std.specs.Float.{binary64}
 use Rattle.std.specs.Float.Ieee.{eq, of_int, to_signed}
+use Rattle.vector.specs.declared.refusal.Refusal.{Refusal}
+use Rattle.vector.specs.declared.refusal.Refusal.TheVariants.{NotWhole}
 use Rattle.whole.specs.Matrix.{Matrix}
+use Rattle.whole.specs.Order.{skip}
 use Rattle.exact.specs.Value.{Whole}
 use Rattle.matrix.specs.Records.{array2, array3, array4}
 use Rattle.matrix.specs.Places.{at}
@@ -57,6 +60,32 @@ floats3 m = at (array3 m)
 
 abbrev pub floats4 : Matrix4 → Floats
 floats4 m = at (array4 m)
+
+-- ---- a test's answer
+
+-- the value, where the test passes, and refusal 6 where it doesn't
+abbrev pub Tested : {A : Type 0} → Bool → A → Result A Refusal → Type 0
+Tested test a answer = MatchResult answer (λ b. (test ≡ true) × (b ≡ a)) (λ cause. (test ≡ false) × (cause ≡ NotWhole))
+
+-- ---- one matrix in another
+
+-- the same below the order n
+abbrev pub Alike : {A : Type 0} → ℕ → (ℕ → ℕ → A) → (ℕ → ℕ → A) → Type 0
+Alike n e d = (c r : ℕ) → c < n → r < n → e c r ≡ d c r
+
+-- e, at order 4, has d at the order n in its top left corner, and what stands besides is taken: the test finds of e what it finds of d
+abbrev pub Corner : ℕ → Floats → Floats → Type 0
+Corner n d e = (whole_entries 1024 4 e ≡ whole_entries 1024 n d) × Alike n e d
+
+-- ---- without a column and a row
+
+-- a list of four without element n; the last stands again in the room that is left
+abbrev pub without : {A : Type 0} → A → ℕ → List A → List A
+without past n list = slice_index_or list (skip n 0) past ∷ slice_index_or list (skip n 1) past ∷ slice_index_or list (skip n 2) past ∷ slice_index_or list 3 past ∷ []
+
+-- a matrix without column c and row r
+abbrev pub minor : ℕ → ℕ → Matrix → Matrix
+minor c r m = λ d s. m (skip c d) (skip r s)
 
 -- ---- whole numbers in an array of columns
 

@@ -6,9 +6,11 @@
 pub mod cofactors;
 pub mod entries;
 pub mod orders;
+pub mod square;
 pub mod sum;
-pub mod undoable;
+pub mod verdict;
 
-pub use cofactors::{cofactor2, cofactor3, cofactor4};
-pub use sum::{signed_sum2, signed_sum3, signed_sum4};
-pub use undoable::{magnitude, one_bit, undoable2, undoable3, undoable4};
+pub use cofactors::cofactor;
+pub use square::Square;
+pub use sum::signed_sum;
+pub use verdict::{magnitude, one_bit, undoable};

@@ -1,6 +1,7 @@
 // The column orders with their signs.
-ghost use Rattle.std.specs.Prelude.{◌≡◌, ◌<◌};
-ghost use Rattle.engine.specs.Orders.{order_at};
+ghost use Rattle.std.specs.Prelude.{◌≡◌, ◌≤◌, take};
+ghost use Rattle.whole.specs.Claim.{factorial};
+ghost use Rattle.engine.specs.Orders.{rows};
 
 // An order of four columns, and its sign: row r takes the column at place r.
 #[derive(Clone, Copy, Debug, PartialEq, Eq)]
@@ -34,10 +35,24 @@ const ORDERS: [Order; 24] = [
     Order([3, 2, 1, 0], 1),
 ];
 
-// Row i of the table.
-pub(crate) fn order_at(i: usize) -> Order
-    requires { i < 24 }
-    ensures { result ≡ order_at i }
+// The orders of n columns: the first n! rows of the table.
+#[tactic(auto, using(crate::proofs::Table::few_rows), unfolding(crate::specs::Orders::rows))]
+pub(crate) fn orders(n: usize) -> &'static [Order]
+    requires { n ≤ 4 }
+    ensures { result.now ≡ take (factorial n) rows }
 {
-    ORDERS[i]
+    &ORDERS[..row_count(n)]
+}
+
+// How many orders n columns have.
+fn row_count(n: usize) -> usize
+    requires { n ≤ 4 }
+    ensures { result ≡ factorial n }
+{
+    match n {
+        0 | 1 => 1,
+        2 => 2,
+        3 => 6,
+        _ => 24,
+    }
 }

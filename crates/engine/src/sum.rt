@@ -1,90 +1,44 @@
 // The signed sum over the column orders: one loop over the table serves orders 2, 3 and 4, and the minors of order 1.
-ghost use Rattle.std.specs.Prelude.{◌≡◌, ◌≤◌, take};
-ghost use Rattle.vector.specs.Refusals.{outcome, given, after};
+ghost use Rattle.std.specs.Prelude.{◌≡◌, take};
+ghost use Rattle.vector.specs.Refusals.{outcome};
 ghost use Rattle.whole.specs.Order.{Order, down_rows, exact_signed_sum};
-ghost use Rattle.whole.specs.Claim.{factorial};
-ghost use Rattle.engine.specs.Whole.{floats2, floats3, floats4, numbers, wholes, Small};
-ghost use Rattle.engine.specs.Engine.{taken, signed_sum};
+ghost use Rattle.engine.specs.Whole.{wholes};
+ghost use Rattle.engine.specs.Engine.{signed_sum};
 
-use crate::{entries, orders};
-use matrix::{Matrix2, Matrix3, Matrix4};
+use crate::entries::Whole;
+use crate::orders;
+use crate::square::Square;
 use vector::Refusal;
 
-// The signed sum of order 2, or refusal 6.
-pub fn signed_sum2(m: Matrix2) -> Result<i64, Refusal>
-    ensures { outcome result ≡ signed_sum 1024 2 (floats2 m) }
+// The signed sum, or refusal 6.
+#[tactic(auto, using(crate::proofs::Outcomes::same_sum), unfolding(crate::specs::Engine::taken))]
+pub fn signed_sum<M: Square>(m: M) -> Result<i64, Refusal>
+    ensures { outcome result ≡ signed_sum 1024 M.ORDER (M.floats m) }
 {
-    sum_answer(Matrix4::from_matrix2(m), 2)
+    Ok(Whole::read(m)?.signed_sum())
 }
 
-// The signed sum of order 3, or refusal 6.
-pub fn signed_sum3(m: Matrix3) -> Result<i64, Refusal>
-    ensures { outcome result ≡ signed_sum 1024 3 (floats3 m) }
-{
-    sum_answer(Matrix4::from_matrix3(m), 3)
-}
-
-// The signed sum of order 4, or refusal 6.
-pub fn signed_sum4(m: Matrix4) -> Result<i64, Refusal>
-    ensures { outcome result ≡ signed_sum 1024 4 (floats4 m) }
-{
-    sum_answer(m, 4)
-}
-
-// The signed sum of the first n columns and rows, or refusal 6.
-fn sum_answer(m: Matrix4, n: usize) -> Result<i64, Refusal>
-    requires { n ≤ 4 }
-    ensures { outcome result ≡ after (taken 1024 4 (floats4 m)) (given (exact_signed_sum n (numbers (floats4 m)))) }
-{
-    if entries::whole_entries(m) {
-        Ok(signed_sum(entries::numbers(m), n))
-    } else {
-        Err(Refusal::NotWhole)
+impl Whole {
+    // The signed sum over the orders of its columns.
+    pub(crate) fn signed_sum(&self) -> i64
+        ensures { result ≡ exact_signed_sum self.now.order (wholes self.now.numbers) }
+    {
+        let mut sum = 0;
+        for order in orders::orders(self.order) {
+            sum += order.1 * self.down_rows(order.0);
+        }
+        sum
     }
-}
 
-// The signed sum over the orders of the first n columns.
-pub(crate) fn signed_sum(m: [[i64; 4]; 4], n: usize) -> i64
-    requires { (n ≤ 4) × Small n (wholes m) }
-    ensures { result ≡ exact_signed_sum n (wholes m) }
-{
-    let rows = row_count(n);
-    let mut sum: i64 = 0;
-    let mut i = 0;
-    while i < rows {
-        let order = orders::order_at(i);
-        let columns = order.0;
-        sum = sum + order.1 * down_rows(m, columns, n);
-        i += 1;
+    // The product down its rows: row r takes the column at place r of the order.
+    fn down_rows(&self, columns: [usize; 4]) -> i64
+        requires { Order self.now.order (take self.now.order columns) }
+        ensures { result ≡ down_rows (wholes self.now.numbers) (take self.now.order columns) }
+    {
+        let mut product = 1;
+        for r in 0..self.order {
+            product *= self.numbers[columns[r]][r];
+        }
+        product
     }
-    sum
-}
-
-// How many orders n columns have.
-fn row_count(n: usize) -> usize
-    requires { n ≤ 4 }
-    ensures { result ≡ factorial n }
-{
-    match n {
-        0 => 1,
-        1 => 1,
-        2 => 2,
-        3 => 6,
-        _ => 24,
-    }
-}
-
-// The product down the first n rows: row r takes the column at place r of the order.
-fn down_rows(m: [[i64; 4]; 4], columns: [usize; 4], n: usize) -> i64
-    requires { (n ≤ 4) × Small n (wholes m) × Order n (take n columns) }
-    ensures { result ≡ down_rows (wholes m) (take n columns) }
-{
-    let mut product: i64 = 1;
-    let mut r = 0;
-    while r < n {
-        let c = columns[r];
-        product = product * m[c][r];
-        r += 1;
-    }
-    product
 }

@@ -4,7 +4,7 @@ ghost use Rattle.migthumo.specs.Entries.{Answers};
 ghost use Rattle.migthumo.specs.Boundary.{determinant, invert};
 
 use crate::{code, entry};
-use matrix::{Matrix2, Matrix3, Matrix4};
+use matrix::{Invert, Matrix2, Matrix3, Matrix4};
 use vector::Refusal;
 
 // The determinant, into an output of one number.

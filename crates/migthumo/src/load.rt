@@ -5,7 +5,7 @@ ghost use Rattle.vector.specs.declared.refusal.Refusal.TheVariants.{InputLength}
 ghost use Rattle.bulk.specs.Refusals.{number_is};
 ghost use Rattle.bulk.specs.Moves.{flat2, flat3, flat4};
 
-use matrix::{Matrix2, Matrix3, Matrix4};
+use matrix::{Matrix, Matrix2, Matrix3, Matrix4};
 use vector::Refusal;
 
 // What a flat slice of COUNT numbers is a matrix of.

@@ -7,7 +7,7 @@ ghost use Rattle.migthumo.specs.Flat.{column_at, row_at};
 ghost use Rattle.migthumo.specs.Boundary.{row, diagonal, transpose, swap_rows, swap_columns, swap_elements};
 
 use crate::{code, entry};
-use matrix::{Column, Matrix2, Matrix3, Matrix4, Row};
+use matrix::{Column, Matrix, Matrix2, Matrix3, Matrix4, Row};
 use vector::Refusal;
 
 // Row r; refusal 12, first, unless r is below the order.

@@ -14,9 +14,9 @@ pub extern "C" fn migthumo_signed_sum(order: usize, m: &[f64], out: &mut [i64]) 
     ensures { Answers result out.old out.new (signed_sum order m.now (length out.old)) }
 {
     code::answered(match order {
-        2 => entry::of_one(m, out, |m: Matrix2| engine::signed_sum2(m)),
-        3 => entry::of_one(m, out, |m: Matrix3| engine::signed_sum3(m)),
-        4 => entry::of_one(m, out, |m: Matrix4| engine::signed_sum4(m)),
+        2 => entry::of_one(m, out, |m: Matrix2| engine::signed_sum(m)),
+        3 => entry::of_one(m, out, |m: Matrix3| engine::signed_sum(m)),
+        4 => entry::of_one(m, out, |m: Matrix4| engine::signed_sum(m)),
         _ => Err(Refusal::Order),
     })
 }
@@ -27,9 +27,9 @@ pub extern "C" fn migthumo_undoable(order: usize, m: &[f64], out: &mut [u8]) -> 
     ensures { Answers result out.old out.new (undoable order m.now (length out.old)) }
 {
     code::answered(match order {
-        2 => entry::of_one(m, out, |m: Matrix2| engine::undoable2(m)),
-        3 => entry::of_one(m, out, |m: Matrix3| engine::undoable3(m)),
-        4 => entry::of_one(m, out, |m: Matrix4| engine::undoable4(m)),
+        2 => entry::of_one(m, out, |m: Matrix2| engine::undoable(m)),
+        3 => entry::of_one(m, out, |m: Matrix3| engine::undoable(m)),
+        4 => entry::of_one(m, out, |m: Matrix4| engine::undoable(m)),
         _ => Err(Refusal::Order),
     })
 }

@@ -3,10 +3,9 @@
 use Rattle.std.proofs.Common.{◌≡◌, ℕ, suc, ◌+◌, ◌*◌, ◌^◌, ◌<◌, ◌≤◌, List, length, get_or, take, drop, ℤ, pos, nat_abs, sym, refl, ap, ◌∙◌, subst, le_trans, lt_of_le_of_lt, mul-le-mul_right, suc-mul, arith, lit<, length-take-le, get_or-take, w64, to_z, of_z, le-leb}
 use borrow.Author.Tests.{lt-leb}
 use lib.Signed.{mag}
-use lib.Ieee.{Float, binary64, of_int}
+use lib.Ieee.{Float, binary64}
 use Rattle.vector.specs.Refusals.{Outcome, given}
 use Rattle.vector.specs.Vectors.{vector2, vector3, vector4}
-use Rattle.vector.specs.declared.refusal.Refusal.{Refusal}
 use Rattle.vector.proofs.Checks.{within}
 use Rattle.matrix.specs.Records.{matrix2, matrix3, matrix4}
 use Rattle.matrix.specs.declared.places.Column.{Column}
@@ -16,10 +15,8 @@ use Rattle.matrix.specs.declared.records.Matrix3.{Matrix3}
 use Rattle.matrix.specs.declared.records.Matrix4.{Matrix4}
 use Rattle.whole.specs.Order.{exact_signed_sum}
 use Rattle.engine.specs.Whole.{Floats, whole_entries, numbers, floats2, floats3, floats4}
-use Rattle.engine.specs.Engine.{number_outcome, taken, cofactor_of, signed_sum, cofactor}
-use Rattle.engine.specs.declared.answers.NumberAnswer.{NumberAnswer}
-use Rattle.engine.specs.declared.answers.NumberAnswer.TheVariants.{Given, Refused}
-use Rattle.engine.proofs.Signed.{back, small_back}
+use Rattle.engine.specs.Engine.{taken, cofactor_of, signed_sum, cofactor}
+use Rattle.engine.proofs.Signed.{back}
 use Rattle.engine.proofs.Places.{below_two, below_three, below_four}
 use Rattle.engine.proofs.Outcomes.{taken_yes, cofactor_ext}
 use Rattle.engine.proofs.Readings.{Holds}
@@ -67,10 +64,6 @@ stopped i x p none is = omega (arith, none, is)
 
 pub gone_on : (i x y p : ℕ) → x ≡ suc y → i + x ≡ p → i + 1 + y ≡ p
 gone_on i x y p one is = omega (arith, one, is)
-
--- a number's float
-pub float_is : (list : List ℤ) (i : ℕ) (x : Float) → SmallList (i + 1) list → x ≡ of_int binary64 (to_z w64 (of_z w64 (get_or list i (pos 0)))) → x ≡ float_at list i
-float_is list i x small e = e ∙ ap (of_int binary64) (small_back (get_or list i (pos 0)) (small.each i (omega arith)) (lit< tt))
 
 -- ---- the records
 
@@ -148,19 +141,7 @@ module _ (list : List ℤ) (n : ℕ) (e : Floats) (small : SmallList (n * n) lis
       given_is ∙ rw (answered, within _ n c.0 h, within _ n r.0 l, all_taken)
       (cofactor_ext n (omega (arith, h)) (numbers e) (columns n list) (numbers_held 1024 n e (columns n list) (lit< tt) holds) c.0 r.0 h l)
 
--- ---- the answer's number
-
-pub given_number : (a : NumberAnswer) (z : ℤ) → mag z < 2 ^ 63 → a ≡ Given z → to_z w64 (of_z w64 z) ≡ number_in (number_outcome a)
-given_number a z fits is = rw (is, back z fits)
-
-pub refused_number : (a : NumberAnswer) (cause : Refusal) → a ≡ Refused cause → pos 0 ≡ number_in (number_outcome a)
-refused_number a cause is = rw is
-
 -- ---- an arm of the match on the order: the code's n is k
-
--- the last order
-pub last_order : {n : ℕ} → 2 ≤ n → n ≤ 4 → (n ≡ 2 → ⊥) → (n ≡ 3 → ⊥) → n ≡ 4
-last_order least most two three = omega (arith, two, three)
 
 module _ {n : ℕ} {list : List ℤ} (small : SmallList (n * n) list) (k : ℕ) (arm : n ≡ k) where
   -- its numbers are small

@@ -1,15 +1,15 @@
 // The exact engine, asked about a matrix whose entries stand in a list column by column.
 ghost use Rattle.std.specs.Prelude.{◌≡◌, ◌+◌, ◌<◌, ◌≤◌, length, take};
+ghost use Rattle.vector.specs.Refusals.{outcome};
 ghost use Rattle.vector.specs.Vectors.{vector2, vector3, vector4};
 ghost use Rattle.whole.specs.Order.{exact_signed_sum};
 ghost use Rattle.engine.specs.Whole.{floats2, floats3, floats4};
-ghost use Rattle.engine.specs.Engine.{number_outcome, cofactor_of};
+ghost use Rattle.engine.specs.Engine.{cofactor_of};
 ghost use Rattle.report.specs.Words.{passing};
 ghost use Rattle.report.specs.Entries.{columns, small, SmallList, Square, float_at, AsFloats, number_in};
 
-use engine::NumberAnswer;
 use matrix::{Column, Matrix2, Matrix3, Matrix4, Row};
-use vector::{Vector2, Vector3, Vector4};
+use vector::{Refusal, Vector2, Vector3, Vector4};
 
 // The largest magnitude that the engine takes.
 const LARGEST: u64 = 1024;
@@ -102,13 +102,10 @@ pub(crate) fn small_ones(list: [i64; 16], count: usize) -> usize
 }
 
 // The number that an answer gives, or 0.
-fn number(answer: NumberAnswer) -> i64
-    ensures { result ≡ number_in (number_outcome answer) }
+fn number(answer: Result<i64, Refusal>) -> i64
+    ensures { result ≡ number_in (outcome answer) }
 {
-    match answer {
-        NumberAnswer::Given(z) => z,
-        NumberAnswer::Refused(_) => 0,
-    }
+    answer.unwrap_or(0)
 }
 
 // The entry at a column and a row.
@@ -125,9 +122,9 @@ pub(crate) fn signed_sum(list: [i64; 16], n: usize) -> i64
     ensures { result ≡ exact_signed_sum n (columns n list) }
 {
     match n {
-        2 => number(engine::signed_sum2(matrix2(list))),
-        3 => number(engine::signed_sum3(matrix3(list))),
-        _ => number(engine::signed_sum4(matrix4(list))),
+        2 => number(engine::signed_sum(matrix2(list))),
+        3 => number(engine::signed_sum(matrix3(list))),
+        _ => number(engine::signed_sum(matrix4(list))),
     }
 }
 
@@ -137,8 +134,8 @@ pub(crate) fn cofactor(list: [i64; 16], n: usize, c: usize, r: usize) -> i64
     ensures { result ≡ cofactor_of n (columns n list) c r }
 {
     match n {
-        2 => number(engine::cofactor2(matrix2(list), Column(c), Row(r))),
-        3 => number(engine::cofactor3(matrix3(list), Column(c), Row(r))),
-        _ => number(engine::cofactor4(matrix4(list), Column(c), Row(r))),
+        2 => number(engine::cofactor(matrix2(list), Column(c), Row(r))),
+        3 => number(engine::cofactor(matrix3(list), Column(c), Row(r))),
+        _ => number(engine::cofactor(matrix4(list), Column(c), Row(r))),
     }
 }

@@ -4,12 +4,12 @@ use Rattle.std.proofs.Common.{◌≡◌, arith}
 use Rattle.report.proofs.ask.cofactor.Goals as goal
 
 pub returns-in-2 : goal.returns-in-2
-returns-in-2 c = arm_cofactor c.requires.0.small 2 c.in-2.is c.matrix2.ensures c.number.type_inv _ c.number.ensures _ _ c.requires.1 c.requires.2 c.cofactor2.ensures
+returns-in-2 c = arm_cofactor c.requires.0.small 2 c.in-2.is c.matrix2.ensures c.number.type_inv _ c.number.ensures _ _ c.requires.1 c.requires.2 c.cofactor.ensures
 
 pub returns-in-3 : goal.returns-in-3
-returns-in-3 c = arm_cofactor c.requires.0.small 3 c.in-3.is c.matrix3.ensures c.number-in-3.type_inv _ c.number-in-3.ensures _ _ c.requires.1 c.requires.2 c.cofactor3.ensures
+returns-in-3 c = arm_cofactor c.requires.0.small 3 c.in-3.is c.matrix3.ensures c.number-in-3.type_inv _ c.number-in-3.ensures _ _ c.requires.1 c.requires.2 c.cofactor-in-3.ensures
 
 pub returns-in_default : goal.returns-in_default
 returns-in_default c =
     let is : c.args.n ≡ 4 = omega arith in
-    arm_cofactor c.requires.0.small 4 is c.matrix4.ensures c.number-in_default.type_inv _ c.number-in_default.ensures _ _ c.requires.1 c.requires.2 c.cofactor4.ensures
+    arm_cofactor c.requires.0.small 4 is c.matrix4.ensures c.number-in_default.type_inv _ c.number-in_default.ensures _ _ c.requires.1 c.requires.2 c.cofactor-in_default.ensures
