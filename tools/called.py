@@ -3,7 +3,8 @@
 
 Usage: tools/called.py        it runs `rt check --list-calls` in the programs, the boundary and its exports, which proves them where they are not proved yet
 
-- Every public function of the libraries is called by `cases`, `replay`, `comesback` or `records`.
+- Every public function of the libraries is called by `cases`, `replay`, `comesback` or `records`; a method of a public
+  trait by one of these at some record, or by a body of a trait.
 - The in-place swaps are called by functions of the boundary.
 - Every function of the boundary is handed on by its exports, crates/migthumo_c.
 - Every export is called by the C program, include/test/migthumo_test.c.
@@ -53,6 +54,15 @@ def public(crate):
     if len(names) != len(set(names)):
         sys.exit(f"{crate}: two public functions of one name")
     return names
+
+
+def of_traits(crate):
+    """Each method of the crate's public traits: the trait, the method, and whether a body of the trait itself calls it."""
+    for path in sorted(glob.glob(f"crates/{crate}/src/**/*.rt", recursive=True)):
+        text = re.sub(r"//[^\n]*", "", open(path, encoding="utf-8").read())
+        for trait, body in re.findall(r"^pub trait (\w+)[^{]*\{(.*?)^\}", text, re.M | re.S):
+            for name in re.findall(r"^    fn (\w+)", body, re.M):
+                yield trait, name, re.search(rf"(?:\.|::){name}\(", body) is not None
 
 
 def calls(crate):
@@ -126,6 +136,12 @@ def main():
     for name in functions:
         if name not in IN_PLACE and name not in by_programs:
             bad.append(f"{name} is called by neither {' nor '.join(PROGRAMS)}")
+    # a method of a trait is called at one record at least, or by another method of a trait
+    methods = [(crate, *method) for crate in libraries() for method in of_traits(crate)]
+    called_at = {re.sub(r"^\w+::[A-Z]\w*?[234](?=[A-Z])", "", name) for name in by_programs}
+    for crate, trait, name, by_trait in methods:
+        if f"{trait}::{name}" not in called_at and not by_trait:
+            bad.append(f"{name} of {crate}'s trait {trait} is called by neither {' nor '.join(PROGRAMS)}")
     handed_on, exported, by_exports = public(BOUNDARY), public(EXPORTS), calls(EXPORTS)
     bad += [f"{name} is not called by {EXPORTS}" for name in handed_on if name not in by_exports]
     bad += [f"{f} of {BOUNDARY}, as far as the sources show" for f in unreached(BOUNDARY, [name.split("::")[-1] for name in handed_on])]

@@ -15,26 +15,30 @@ import subprocess
 import sys
 import tempfile
 
-# function: [(what is wrong, old text, new text), ..]; `{n}` stands for each order or length named in the pattern
+# function: [(what is wrong, old text, new text), ..]; `{n}` stands for each order or length named in the pattern.
+# `VectorSpace::add` is a trait's own body, and `VectorSpace@Vector2::map` that of the record's impl
 WRONG = {
     "vector": {
         "lib.rt Vector{234}::new": [("two entries exchanged", "{ x, y", "{ x: y, y: x"), ("an entry fixed at 0", "{ x,", "{ x: 0.0,")],
-        "lib.rt Vector{234}::add": [("one entry subtracted", "self.x + other.x", "self.x - other.x"), ("one entry of the left side alone", "self.y + other.y", "self.y")],
-        "lib.rt Vector{234}::sub": [("one entry the other way round", "self.x - other.x", "other.x - self.x"), ("one entry added", "self.y - other.y", "self.y + other.y")],
-        "lib.rt Vector{234}::scalar_mul": [("one entry left as it is", "scalar * self.x", "self.x"), ("one entry written twice", "scalar * self.y", "scalar * self.x")],
-        "lib.rt Vector{2}::dot": [("the difference", " + ", " - "), ("a cross term", "self.y * other.y", "self.y * other.x")],
-        "lib.rt Vector{3}::dot": [("summed from the left", "+ (self.y * other.y + self.z * other.z)", "+ self.y * other.y + self.z * other.z"), ("one term twice", "self.z * other.z", "self.y * other.y")],
-        "lib.rt Vector{4}::dot": [("summed from the left", "+ (self.y * other.y + (self.z * other.z + self.w * other.w))", "+ self.y * other.y + self.z * other.z + self.w * other.w"), ("one term twice", "self.w * other.w", "self.z * other.z")],
-        "lib.rt Vector{3}::div_scalar": [("the scalar multiplied", "self.x / scalar", "self.x * scalar"), ("by the reciprocal, which rounds twice", "self.y / scalar", "self.y * (1.0 / scalar)")],
+        "lib.rt VectorSpace@Vector{234}::map": [("two entries exchanged", "f(self.x), f(self.y)", "f(self.y), f(self.x)"), ("one entry left as it is", "f(self.y)", "self.y")],
+        "lib.rt VectorSpace@Vector{234}::zip": [("an entry of the other for its neighbour", "other.y", "other.x"), ("one entry of the left side alone", "f(self.x, other.x)", "self.x")],
+        "space.rt VectorSpace::add": [("the difference", "x + y", "x - y"), ("the left side twice", "x + y", "x + x")],
+        "space.rt VectorSpace::sub": [("the other way round", "x - y", "y - x"), ("the sum", "x - y", "x + y")],
+        "space.rt VectorSpace::neg": [("no sign turned", "-e", "e"), ("0 less the entry: 0.0 stays 0.0", "-e", "0.0 - e")],
+        "space.rt VectorSpace::scalar_mul": [("left as it is", "scalar * e", "e"), ("the scalar twice", "scalar * e", "scalar * scalar")],
+        "space.rt VectorSpace::scalar_div": [("the other way round", "scalar / e", "e / scalar"), ("multiplied", "scalar / e", "scalar * e")],
+        "space.rt VectorSpace::mul_scalar": [("left as it is", "e * scalar", "e"), ("divided", "e * scalar", "e / scalar")],
+        "space.rt VectorSpace::div_scalar": [("the scalar multiplied", "e / scalar", "e * scalar"), ("by the reciprocal, which rounds twice", "e / scalar", "e * (1.0 / scalar)")],
+        "lib.rt Vector@Vector{234}::from_value": [("one entry 1", "(value", "(1.0"), ("one entry 0", ", value", ", 0.0")],
+        "lib.rt Vector@Vector{2}::dot": [("the difference", " + ", " - "), ("a cross term", "self.y * other.y", "self.y * other.x")],
+        "lib.rt Vector@Vector{3}::dot": [("summed from the left", "+ (self.y * other.y + self.z * other.z)", "+ self.y * other.y + self.z * other.z"), ("one term twice", "self.z * other.z", "self.y * other.y")],
+        "lib.rt Vector@Vector{4}::dot": [("summed from the left", "+ (self.y * other.y + (self.z * other.z + self.w * other.w))", "+ self.y * other.y + self.z * other.z + self.w * other.w"), ("one term twice", "self.w * other.w", "self.z * other.z")],
         "lib.rt Vector{3}::cross": [("one sign turned", "self.y * other.z - self.z", "self.y * other.z + self.z"), ("one entry the other way round", "self.z * other.x - self.x * other.z", "self.x * other.z - self.z * other.x")],
         "lib.rt Vector{4}::truncate_n": [("two kept entries exchanged", "self.x, self.z, self.w", "self.x, self.w, self.z"), ("11 for 12", "Refusal::Row(Place::First)", "Refusal::Column(Place::First)"), ("another refusal", "Refusal::Row(Place::First)", "Refusal::Singular")],
         "refusal.rt Refusal::number": [("two causes with one number", "=> 12,", "=> 11,"), ("1, which is retired", "=> 11,", "=> 1,"), ("a number that the table lacks", "=> 6,", "=> 7,")],
         "refusal.rt Refusal::place": [("the place lost", "Refusal::Row(place) => Placed::At(place)", "Refusal::Row(place) => Placed::Nowhere"), ("a place where there is none", "Refusal::NotWhole => Placed::Nowhere", "Refusal::NotWhole => Placed::At(Place::First)")],
     },
     "matrix": {
-        "records.rt Matrix{234}::order": [("one more", "ORDER", "ORDER + 1"), ("another number", "Matrix{n}::ORDER", "5")],
-        "records.rt Matrix{234}::zero": [("the identity", "ZERO", "IDENTITY"), ("nearly zero", "Matrix{n}::ZERO", "Matrix{n}::from_value(1.0e-300)")],
-        "records.rt Matrix{234}::identity": [("zero", "IDENTITY", "ZERO"), ("its negative", "Matrix{n}::IDENTITY", "Matrix{n}::from_value(-1.0)")],
         "records.rt Matrix{234}::new": [("two entries exchanged", "Vector{n}::new(c0r0, c0r1", "Vector{n}::new(c0r1, c0r0"), ("an entry of another column", "c1r0", "c0r0")],
         "records.rt Matrix{234}::from_cols": [("the second column first", "x: c0", "x: c1"), ("the first column twice", "y: c1", "y: c0")],
         "records.rt Matrix{2}::from_scale": [("no scale", "from_value(value)", "from_value(1.0)"), ("twice the scale", "from_value(value)", "from_value(value + value)")],
@@ -43,8 +47,7 @@ WRONG = {
         "records.rt Matrix{34}::from_translation": [("two offsets exchanged", "[v.x, v.y", "[v.y, v.x"), ("the offset in the last row", "[1.0, 0.0", "[1.0, v.x")],
         "records.rt Matrix{234}::into_array": [("two places exchanged", "self.x.y", "self.y.x"), ("an entry fixed at 0", "[self.x.x", "[0.0")],
         "records.rt Matrix{234}::from_array": [("[c][r] read as [r][c]", "m[0][1]", "m[1][0]"), ("an entry written twice", "m[0][0]", "m[1][1]")],
-        "records.rt Matrix{234}::from_value": [("one entry 1", "[value", "[1.0"), ("an entry beside the diagonal", "0.0", "value")],
-        "records.rt Matrix{234}::from_diagonal": [("one entry twice", "value.x", "value.y"), ("an entry beside the diagonal", "0.0", "value.x")],
+        "square.rt SquareMatrix@Matrix{234}::from_diagonal": [("one entry twice", "value.x", "value.y"), ("an entry beside the diagonal", "0.0", "value.x")],
         "records.rt Matrix{34}::from_matrix2": [("transposed", "m.x.y", "m.y.x"), ("0 for a 1", "1.0", "0.0")],
         "records.rt Matrix{4}::from_matrix3": [("transposed", "m.x.y", "m.y.x"), ("0 for the 1", "1.0", "0.0")],
         "places.rt check_row": [("11 for a row", "Refusal::Row(place)", "Refusal::Column(place)"), ("always the first named", "Refusal::Row(place)", "Refusal::Row(Place::First)")],
@@ -64,17 +67,13 @@ WRONG = {
         "in_place.rt Matrix{4}::swap_rows_mut": [("answers done and leaves the matrix", "*self = stored(before, answer)", "*self = before"), ("the first number twice", "(a, b)", "(a, a)")],
         "in_place.rt Matrix{4}::swap_columns_mut": [("answers done and leaves the matrix", "*self = stored(before, answer)", "*self = before"), ("the first number twice", "(a, b)", "(a, a)")],
         "in_place.rt Matrix{4}::swap_elements_mut": [("answers done and leaves the matrix", "*self = stored(before, answer)", "*self = before"), ("the first place twice", "(ac, ar, bc, br)", "(ac, ar, ac, ar)")],
-        "arithmetic.rt Matrix{234}::add": [("a column of the other for its neighbour", "self.x.add(other.x)", "self.x.add(other.y)"), ("a column of the other added to itself", "self.y.add(other.y)", "other.y.add(other.y)")],
-        "arithmetic.rt Matrix{234}::sub": [("one column the other way round", "self.x.sub(other.x)", "other.x.sub(self.x)"), ("a column of the other for its neighbour", "self.y.sub(other.y)", "self.y.sub(other.x)")],
-        "arithmetic.rt Matrix{234}::scalar_mul": [("a column for its neighbour", "self.x.scalar_mul(scalar)", "self.y.scalar_mul(scalar)"), ("one column by another scalar", "self.y.scalar_mul(scalar)", "self.y.scalar_mul(1.0)")],
-        "arithmetic.rt Matrix{234}::scalar_div": [("one entry the other way round", "scalar / self.x.x", "self.x.x / scalar"), ("one entry multiplied", "scalar / self.x.y", "scalar * self.x.y")],
-        "arithmetic.rt Matrix{234}::mul_vector": [("one row for another", "rows.x.dot", "rows.y.dot"), ("a row twice", "rows.y.dot", "rows.x.dot")],
-        "arithmetic.rt Matrix{23}::mul": [("the other way round", "self.mul_vector(other.x)", "other.mul_vector(self.x)"), ("a column twice", "self.mul_vector(other.y)", "self.mul_vector(other.x)")],
-        "arithmetic.rt Matrix{4}::mul": [("the other way round", "self.combine(other.x)", "other.combine(self.x)"), ("a column twice", "self.combine(other.y)", "self.combine(other.x)")],
+        "arithmetic.rt VectorSpace@Matrix{234}::map": [("a column for its neighbour", "self.x.map(f)", "self.y.map(f)"), ("one column left as it is", "self.y.map(f)", "self.y")],
+        "arithmetic.rt VectorSpace@Matrix{234}::zip": [("a column of the other for its neighbour", "self.x.zip(other.x, f)", "self.x.zip(other.y, f)"), ("one column the other way round", "self.y.zip(other.y, f)", "other.y.zip(self.y, f)")],
+        "square.rt SquareMatrix::from_value": [("1 for the value", "from_value(value)", "from_value(1.0)"), ("twice the value", "from_value(value)", "from_value(value + value)")],
+        "square.rt SquareMatrix@Matrix{234}::mul_vector": [("one row for another", "rows.x.dot", "rows.y.dot"), ("a row twice", "rows.y.dot", "rows.x.dot")],
+        "square.rt SquareMatrix@Matrix{23}::mul": [("the other way round", "self.mul_vector(other.x)", "other.mul_vector(self.x)"), ("a column twice", "self.mul_vector(other.y)", "self.mul_vector(other.x)")],
+        "square.rt SquareMatrix@Matrix{4}::mul": [("the other way round", "self.combine(other.x)", "other.combine(self.x)"), ("a column twice", "self.combine(other.y)", "self.combine(other.x)")],
         "arithmetic.rt Matrix{4}::combine": [("summed from the right", "self.x.x * v.x + self.y.x * v.y + self.z.x * v.z + self.w.x * v.w", "self.x.x * v.x + (self.y.x * v.y + (self.z.x * v.z + self.w.x * v.w))"), ("[c][r] read as [r][c]", "self.y.x * v.y", "self.x.y * v.y")],
-        "arithmetic.rt Matrix{234}::neg": [("one sign not turned", "-self.x.x", "self.x.x"), ("0 less the entry: 0.0 stays 0.0", "-self.x.y", "0.0 - self.x.y")],
-        "arithmetic.rt Matrix{234}::mul_scalar": [("one entry left as it is", "self.x.x * scalar", "self.x.x"), ("one entry divided", "self.x.y * scalar", "self.x.y / scalar")],
-        "arithmetic.rt Matrix{234}::div_scalar": [("by the reciprocal, which rounds twice", "self.x.x / scalar", "self.x.x * (1.0 / scalar)"), ("one entry the other way round", "self.x.y / scalar", "scalar / self.x.y")],
         "inverse.rt Matrix{2}::determinant": [("fixed at 1", "self.x.x * self.y.y - self.y.x * self.x.y", "1.0"), ("the permanent", " - ", " + ")],
         "inverse.rt Matrix{3}::determinant": [("one sign turned", "- self.y.x *", "+ self.y.x *"), ("one factor for another", "self.z.y * self.y.z", "self.z.y * self.z.y")],
         "inverse.rt Matrix{4}::determinant": [("two rows exchanged", "rows.y, rows.z,", "rows.z, rows.y,"), ("by another row", ".dot(rows.x)", ".dot(rows.y)")],
@@ -217,8 +216,10 @@ def body_of(text, record, function):
         start = m.end()
         stop = text.index("\n}\n", start)
     else:
-        impl = text.index("impl %s {" % record)
-        m = re.compile(r"^    (?:pub(?:\(crate\))? )?fn %s\(" % function, re.M).search(text, impl)
+        trait, _, of = record.rpartition("@")
+        head = f"impl {trait} for {of} {{" if trait else f"impl {record} {{"
+        impl = text.index(head if head in text else f"pub trait {record}: ")
+        m = re.compile(r"^    (?:pub(?:\(crate\))? )?fn %s[<(]" % function, re.M).search(text, impl)
         start = m.end()
         stop = text.index("\n    }\n", start)
     return text.index("{\n", start), stop + 6
@@ -245,6 +246,8 @@ def try_all(crate, k, rows):
         sys.exit(f"{crate}: the copy with wrong programs {k + 1} did not reach the prover")
     bad, forms = [], 0
     for _, file, record, function, _, what, old, new in rows:
+        # the name that the check has for an impl: the record, then its trait
+        record = record and "".join(reversed(record.split("@")))
         name = f"{record}::{function}" if record else function
         module = "" if record or file == "lib.rt" else file[:-3]
         line = next((l for l in log.split("\n") if re.match(r"fn %s::(\w+::)*%s: " % (crate, re.escape(f"{module}::{name}" if module else name)), l)), "")
