@@ -11,10 +11,6 @@ use Rattle.engine.specs.Whole.{Floats}
 abbrev pub columns : ℕ → List ℤ → Matrix
 columns n list = λ c r. slice_index_or list (c * n + r) (pos 0)
 
--- a whole number of magnitude at most 1024
-abbrev pub small : ℤ → Bool
-small z = nat_le (unsigned_abs z) 1024
-
 -- the first k numbers are of magnitude at most 1024
 pub record SmallList (k : ℕ) (list : List ℤ) : Type 0 where
   pub each : (i : ℕ) → i < k → unsigned_abs (slice_index_or list i (pos 0)) ≤ 1024

@@ -21,7 +21,7 @@ fn float_at(grid: &Grid, i: usize) -> f64
     std::num::nearest_i64_to_f64(z)
 }
 
-// Two numbers from a place on.
+// Two numbers from a place on. One function for each order from here on, since the engine's vectors and matrices are types of their own.
 fn column2(grid: &Grid, i: usize) -> Vector2
     requires { i + 2 ≤ 16 }
     ensures { result ≡ vector2 (float_at grid.now.entries i) (float_at grid.now.entries (i + 1)) }

@@ -13,7 +13,7 @@ pub(crate) struct Ratio {
     pub under: u64,
 }
 
-// The greatest common divisor, by Euclid's steps.
+// The greatest common divisor, by Euclid's steps: no index is counted, so they are a `while`.
 fn gcd(a: u64, b: u64) -> u64
     ensures { result ≡ report_gcd a b }
 {

@@ -50,7 +50,7 @@ fn rows(page: &mut Page, grid: &Grid, shown: Shown)
     }
 }
 
-// Whether the inverse is exact.
+// Whether the inverse is exact: the answer is what is told, and no step to run.
 fn exactness(page: &mut Page, exact: bool)
     ensures { Adds page.old (report_exactness exact) page.new }
 {

@@ -43,7 +43,7 @@ fn labelled(page: &mut Page, label: &[u8], n: u64)
 }
 
 impl Totals {
-    // No line so far.
+    // No line so far. The numbers are written out, as the promise names them: a Default would be a second way to the same value.
     pub fn none() -> Totals
         ensures { result ≡ verdict_none }
     {

@@ -2,6 +2,7 @@
 ghost use Rattle.std.specs.Prelude.{◌≤◌, length};
 
 // A lent slice, and the place in it where the next text goes.
+// Not written to by `write!`, whose promise speaks of an Ok alone: here each text is promised in every case.
 #[derive(Drop)]
 pub(crate) struct Page<'a> {
     pub out: &'a mut [u8],

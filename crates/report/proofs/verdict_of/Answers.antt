@@ -7,6 +7,3 @@ use Rattle.report.proofs.verdict_of.Goals as goal
 
 pub returns-in-Ok : goal.returns-in-Ok
 returns-in-Ok c = c.sum_verdict.ensures ∙ ap sum_verdict (back c.signed_sum.result c.signed_sum.type_inv ∙ c.signed_sum.ensures) ∙ kind_matrix c.in-Ok.grid ∙ ap verdict_in c.in-Ok.ensures
-
-pub returns-in-Err : goal.returns-in-Err
-returns-in-Err c = c.fault_verdict.ensures ∙ ap verdict_in c.in-Err.ensures

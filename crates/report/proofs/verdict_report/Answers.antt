@@ -9,6 +9,3 @@ use Rattle.report.proofs.verdict_report.Goals as goal
 
 pub returns-in-Ok : goal.returns-in-Ok
 returns-in-Ok c = named (ap (sum_line (size c.in-Ok.grid.order)) (back c.signed_sum.result c.signed_sum.type_inv ∙ c.signed_sum.ensures) ∙ tell_line c.in-Ok.grid ∙ ap verdict_text c.in-Ok.ensures) c.sum_line.ensures
-
-pub returns-in-Err : goal.returns-in-Err
-returns-in-Err c = named (ap verdict_text c.in-Err.ensures) c.tell_fault.ensures
