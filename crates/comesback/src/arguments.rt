@@ -27,7 +27,7 @@ fn add(rt: &impl Env, line: &mut [u8], at: usize, i: usize) -> Option<usize>
     if next < line.len() { Some(next) } else { None }
 }
 
-// The words of the command, or none where there was not room for them.
+// The words of the command, or none where there was not room for them. The line and the next place stay apart, as `report::add_word` takes them.
 fn join(rt: &impl Env, line: &mut [u8]) -> Option<usize>
     ensures { IfSome result (λ n. (n ≤ length line.new) × (n ≡ length (take n line.new))) }
 {

@@ -52,7 +52,7 @@ impl Grid {
     ghost use Rattle.std.specs.Prelude.{◌≡◌, ◌<◌};
     ghost use Rattle.report.specs.Grid.{order_in, matrix_in};
 
-    // The entry at a column and a row.
+    // The entry at a column and a row. That they are below the order is asked for here and of whoever asks: it is a fact of one grid, so no type of a place could hold it.
     pub(crate) fn entry(&self, c: usize, r: usize) -> i64
         requires { (c < order_in self.now) × (r < order_in self.now) }
         ensures { result ≡ matrix_in self.now c r }
