@@ -16,7 +16,7 @@ pub(crate) enum Fault {
     NotWhole(Order, usize),
 }
 
-// The matrix of the order that as many words are as it has entries.
+// The matrix of the order, from as many words as it has entries. The arms are written out, since `ok_or` and `?` hide from the proof which word was met.
 fn entries(order: Order, left: Words) -> Result<Grid, Fault>
     requires { length (words left.line.now) ≡ size order * size order }
     ensures { meant result ≡ entries_in (size order) (words left.entry.line.now) }
