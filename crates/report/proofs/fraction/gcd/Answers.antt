@@ -1,6 +1,6 @@
 -- A turn is one of Euclid's steps. Assumes nothing.
-use Rattle.std.proofs.Common.{mod-lt, rules}
-use Rattle.report.proofs.Fractions.{steps_start, steps_turn, steps_end}
+use Rattle.std.proofs.Common.{rules}
+use Rattle.report.proofs.Fractions.{steps_turn, steps_end}
 use Rattle.report.proofs.fraction.gcd.Goals as goal
 
 pub loop-y-preserved : goal.loop-y-preserved
