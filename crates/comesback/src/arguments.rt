@@ -1,5 +1,5 @@
 // The words of the command, put together by `report::add_word` and answered by `report::report`.
-ghost use Rattle.std.specs.Prelude.{◌≤◌, ◌≡◌, length, take};
+ghost use Rattle.std.specs.Prelude.{◌≤◌, ◌≡◌, length, take, IfSome};
 
 use crate::output;
 use std::env::FillError;
@@ -17,26 +17,25 @@ pub(crate) fn count(rt: &impl Env) -> usize {
     usize::MAX
 }
 
-// A word more: the next place, or the line's length where there was not room for it.
-fn add(rt: &impl Env, line: &mut [u8], at: usize, i: usize) -> usize
-    ensures { result ≤ length line.new }
+// A word more: the next place, or none where there was not room for it.
+fn add(rt: &impl Env, line: &mut [u8], at: usize, i: usize) -> Option<usize>
+    ensures { IfSome result (λ n. (n ≤ length line.new) × (n ≡ length (take n line.new))) }
 {
     let mut word = [0u8; 65536];
-    match rt.arg(i, &mut word) {
-        Ok(n) => report::add_word(line, at, &word[..n]),
-        Err(_) => line.len(),
-    }
+    let n = rt.arg(i, &mut word).ok()?;
+    let next = report::add_word(line, at, &word[..n]);
+    if next < line.len() { Some(next) } else { None }
 }
 
-// The words of the command.
-fn join(rt: &impl Env, line: &mut [u8]) -> usize
-    ensures { (result ≤ length line.new) × (result ≡ length (take result line.new)) }
+// The words of the command, or none where there was not room for them. The line and the next place stay apart, as `report::add_word` takes them.
+fn join(rt: &impl Env, line: &mut [u8]) -> Option<usize>
+    ensures { IfSome result (λ n. (n ≤ length line.new) × (n ≡ length (take n line.new))) }
 {
-    let mut at: usize = 0;
+    let mut at = 0;
     for i in 1..count(rt) {
-        at = add(rt, line, at, i);
+        at = add(rt, line, at, i)?;
     }
-    at
+    Some(at)
 }
 
 // The report of the words.
@@ -49,10 +48,8 @@ fn print(rt: &impl Print, line: &[u8]) -> io::Result<()> {
 // The answer to the words of the command.
 pub(crate) fn answer(rt: &(impl Env + Print)) -> io::Result<()> {
     let mut line = [0u8; 65536];
-    let n = join(rt, &mut line);
-    if n == line.len() {
-        output::put(rt, b"expected words of fewer than 65536 bytes in all\n")
-    } else {
-        print(rt, &line[..n])
+    match join(rt, &mut line) {
+        Some(n) => print(rt, &line[..n]),
+        None => output::put(rt, b"expected words of fewer than 65536 bytes in all\n"),
     }
 }

@@ -3,6 +3,7 @@
 #![tactic(auto)]
 
 mod arguments;
+mod line;
 mod lines;
 mod output;
 

@@ -1,7 +1,6 @@
 -- The engine's answers about the floats of small whole numbers are the sums and cofactors of the numbers themselves, at every order.
 -- Assumes nothing.
-use Rattle.std.proofs.Common.{◌≡◌, ℕ, suc, ◌+◌, ◌*◌, ◌^◌, ◌<◌, ◌≤◌, List, length, get_or, take, drop, ℤ, pos, nat_abs, sym, refl, ap, ◌∙◌, subst, le_trans, lt_of_le_of_lt, mul-le-mul_right, suc-mul, arith, lit<, length-take-le, get_or-take, w64, to_z, of_z, le-leb}
-use borrow.Author.Tests.{lt-leb}
+use Rattle.std.proofs.Common.{◌≡◌, ℕ, suc, ◌+◌, ◌*◌, ◌^◌, ◌<◌, ◌≤◌, List, ℤ, sym, refl, ◌∙◌, subst, le_trans, lt_of_le_of_lt, mul-le-mul_right, suc-mul, arith, lit<, w64, to_z, of_z}
 use lib.Signed.{mag}
 use lib.Ieee.{Float, binary64}
 use Rattle.vector.specs.Refusals.{Outcome, given}
@@ -23,9 +22,7 @@ use Rattle.engine.proofs.Readings.{Holds}
 use Rattle.engine.proofs.General.{passes_true}
 use Rattle.engine.proofs.Numbers.{taken_held, numbers_held, sum_held}
 use Rattle.exact.proofs.Known.{Known, known_within, known_integer}
-use Rattle.report.specs.Words.{passing}
-use Rattle.report.proofs.Reading.{passing_more, passing_ends, passing_over}
-use Rattle.report.specs.Entries.{columns, small, SmallList, float_at, AsFloats, number_in}
+use Rattle.report.specs.Entries.{columns, SmallList, float_at, AsFloats, number_in}
 
 -- ---- the list
 
@@ -40,30 +37,6 @@ place n c r h l = omega (arith, mul-le-mul_right {m = suc c} {n = n} n h, suc-mu
 -- which has room for the entries
 pub room : (n : ℕ) → n ≤ 4 → n * n ≤ 16
 room n h = le_trans (mul-le-mul_right {m = n} {n = 4} n h) (omega arith)
-
--- a number among the first is small and counted, or it is beyond 1024 and ends the count
-module _ (list : List ℤ) (count i : ℕ) (within-list : count ≤ length list) (h : i < count) (m : ℕ) (fits : mag (get_or list i (pos 0)) < 2 ^ 63) (is_held_lem : m ≡ nat_abs (to_z w64 (of_z w64 (get_or list i (pos 0))))) where
-  is : m ≡ nat_abs (get_or list i (pos 0))
-  is = is_held_lem ∙ ap nat_abs (back (get_or list i (pos 0)) fits)
-
-  there : i < length (take count list)
-  there = rw (length-take-le count list within-list) h
-
-  pub small_passes : m ≤ 1024 → passing small (drop i (take count list)) ≡ suc (passing small (drop (i + 1) (take count list)))
-  small_passes few = passing_more small (pos 0) (take count list) i there (rw (get_or-take count list i (pos 0) h, ← is) (le-leb m 1024 few))
-
-  pub small_fails : 1024 < m → passing small (drop i (take count list)) ≡ 0
-  small_fails beyond = passing_ends small (pos 0) (take count list) i there (rw (get_or-take count list i (pos 0) h, ← is) (lt-leb m 1024 beyond))
-
-pub small_over : (list : List ℤ) (count i : ℕ) → count ≤ length list → count ≤ i → passing small (drop i (take count list)) ≡ 0
-small_over list count i within-list h = passing_over small (take count list) i (rw (length-take-le count list within-list) h)
-
--- the count stops there, or goes on
-pub stopped : (i x p : ℕ) → x ≡ 0 → i + x ≡ p → i ≡ p
-stopped i x p none is = omega (arith, none, is)
-
-pub gone_on : (i x y p : ℕ) → x ≡ suc y → i + x ≡ p → i + 1 + y ≡ p
-gone_on i x y p one is = omega (arith, one, is)
 
 -- ---- the records
 
@@ -141,12 +114,11 @@ module _ (list : List ℤ) (n : ℕ) (e : Floats) (small : SmallList (n * n) lis
       given_is ∙ rw (answered, within _ n c.0 h, within _ n r.0 l, all_taken)
       (cofactor_ext n (omega (arith, h)) (numbers e) (columns n list) (numbers_held 1024 n e (columns n list) (lit< tt) holds) c.0 r.0 h l)
 
--- ---- an arm of the match on the order: the code's n is k
-
-module _ {n : ℕ} {list : List ℤ} (small : SmallList (n * n) list) (k : ℕ) (arm : n ≡ k) where
+-- ---- an arm of the match on the order: the matrix has n columns, and n is k
+module _ {n : ℕ} {list : List ℤ} (all_small : SmallList 16 list) (k : ℕ) (few : k ≤ 4) (arm : n ≡ k) where
   -- its numbers are small
   pub small_arm : SmallList (k * k) list
-  small_arm = rw arm at small
+  small_arm = fewer (room k few) all_small
 
   module _ {e : Floats} (floats : AsFloats k list e) {z : ℤ} (fits : mag z < 2 ^ 63) (o : Outcome ℤ) (given_is : z ≡ number_in o) where
     -- the number that the code holds is the sum

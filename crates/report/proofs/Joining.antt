@@ -1,9 +1,8 @@
 -- Words put one after another, a blank after each, are the words of the line.
 -- Assumes nothing.
-use Rattle.std.proofs.Common.{◌≡◌, ℕ, zero, suc, ◌+◌, ◌<◌, ◌≤◌, min, Bool, true, false, cond, List, [], ◌∷◌, ◌++◌, length, take, sym, refl, ap, ◌∙◌, append_assoc, append-nil, arith, length-append, length-take-le}
+use Rattle.std.proofs.Common.{◌≡◌, ℕ, zero, suc, ◌+◌, ◌<◌, ◌≤◌, Bool, true, false, cond, List, [], ◌∷◌, ◌++◌, length, take, sym, refl, ap, ◌∙◌, append_assoc, append-nil, arith, length-append}
 use lib.Seq.{sets}
 use Rattle.report.specs.Text.{Bytes}
-use Rattle.report.specs.Written.{Wrote}
 use Rattle.report.specs.Words.{is_blank, lead, parts, kept, words, joined, JoinedWords, WordAdded}
 use Rattle.report.proofs.Reading.{some_part}
 use Rattle.report.proofs.Writing.{sets_past, sets_later}
@@ -61,13 +60,6 @@ word_added ss w l at before room =
     let long : length (w ++ (32 ∷ [])) ≡ length w + 1 = length-append w (32 ∷ []) in
     rw (← long) (added_behind l at (w ++ (32 ∷ [])) (omega (arith, long, room)) ∙ ap (λ (t : Bytes). t ++ (w ++ (32 ∷ []))) before ∙ sym (joined_more ss w))
 
--- what is promised of a word that is put in
-pub added : (l l' w : Bytes) (at next : ℕ) → Wrote l at (w ++ (32 ∷ [])) l' next
-    → (next ≡ min (length l) (at + (length w + 1))) × ((next ≤ length l') × (next ≡ length (take next l'))) × (l' ≡ sets l at (w ++ (32 ∷ [])))
-added l l' w at next wrote =
-    (wrote.place ∙ ap (λ (n : ℕ). min (length l) (at + n)) (length-append w (32 ∷ [])), (wrote.within, sym (length-take-le next l' wrote.within)), wrote.bytes)
-
--- past the line's end
-pub no_room : (l w : Bytes) (at : ℕ) → length l < at
-    → (length l ≡ min (length l) (at + (length w + 1))) × ((length l ≤ length l) × (length l ≡ length (take (length l) l))) × (l ≡ sets l at (w ++ (32 ∷ [])))
-no_room l w at past = (omega arith, (omega arith, sym (length-take-le (length l) l (omega arith))), sym (sets_past l at (w ++ (32 ∷ [])) (omega arith)))
+-- past the line's end nothing is put in
+pub no_room : (l w : Bytes) (at : ℕ) → length l < at → l ≡ sets l at (w ++ (32 ∷ []))
+no_room l w at past = sym (sets_past l at (w ++ (32 ∷ [])) (omega arith))

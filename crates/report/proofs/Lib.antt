@@ -10,7 +10,6 @@ pub mod Whole
 pub mod Alike
 pub mod Lines
 pub mod Tells
-pub mod Asked
 pub mod Joining
 pub mod Fits
 pub mod Verdicts

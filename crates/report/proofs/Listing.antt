@@ -1,60 +1,64 @@
--- The loop that reads the entries: parts one after another, those that are words counted and held.
+-- The loop that reads the entries: words one after another, those that fit counted and held.
 -- Assumes nothing.
-use Rattle.std.proofs.Common.{◌≡◌, ℕ, suc, ◌+◌, ◌<◌, ◌≤◌, Bool, true, false, eqb, List, [], ◌∷◌, ◌++◌, map, length, take, set, ℤ, sym, refl, ap, ◌∙◌, append_assoc, append-nil, add-one, arith, length-set, take-suc-set, ne_eqb, eqb-true, leb-false, leb-true}
-use borrow.Author.Tests.{lt-leb}
+use Rattle.std.proofs.Common.{◌≡◌, ℕ, zero, suc, ◌+◌, ◌*◌, ◌<◌, ◌≤◌, true, false, List, [], ◌∷◌, ◌++◌, map, length, get_or, take, set, ℤ, pos, nat_abs, sym, ap, ◌∙◌, append_assoc, append-nil, add-one, arith, lit<, length-set, take-suc-set, eq-eqb, ne_eqb}
+use Rattle.engine.proofs.Signed.{small_back}
 use Rattle.report.specs.Text.{Bytes}
-use Rattle.report.specs.Words.{kept}
-use Rattle.report.specs.Read.{parts_from, words_from, held, NextPart, Numbers}
-use Rattle.report.proofs.Signs.{differ, held_back, held as signs_held}
-use Rattle.report.proofs.Reading.{kept_word, kept_empty}
+use Rattle.report.specs.Words.{words, fits, passing, number_of}
+use Rattle.report.specs.Entries.{SmallList}
+use Rattle.report.specs.Line.{matrix, not_whole, entries_in}
+use Rattle.report.proofs.Signs.{held, fits_small}
 
-module _ (s : Bytes) (from count : ℕ) where
-  -- where the loop stands at a place, with i words read: what is read, and the words from there on, are the words
-  pub record SoFar (list : List ℤ) (at i : ℕ) : Type 0 where
-    pub room : length list ≡ 16
-    pub few : i ≤ count
-    pub counted : i + length (words_from s at) ≡ length (words_from s from)
-    pub read : take i list ++ map held (words_from s at) ≡ map held (words_from s from)
+-- a small number stored among small ones
+set_small : (list : List ℤ) (i : ℕ) (z : ℤ) (k : ℕ) → nat_abs (get_or list k (pos 0)) ≤ 1024 → nat_abs z ≤ 1024 → nat_abs (get_or (set list i z) k (pos 0)) ≤ 1024
+set_small [] i z k h l = h
+set_small (x ∷ list) zero z zero h l = l
+set_small (x ∷ list) zero z (suc k) h l = h
+set_small (x ∷ list) (suc i) z zero h l = h
+set_small (x ∷ list) (suc i) z (suc k) h l = set_small list i z k h l
 
-  pub start : (list : List ℤ) → length list ≡ 16 → SoFar list from 0
-  start list room = record { room = room; few = omega arith; counted = omega arith; read = refl }
+pub small_set : (list : List ℤ) (i : ℕ) (z : ℤ) → SmallList 16 list → nat_abs z ≤ 1024 → SmallList 16 (set list i z)
+small_set list i z small few = record { each = λ k h. set_small list i z k (small.each k h) few }
 
-  module _ {list : List ℤ} {at i : ℕ} {word : Bool} {number : ℤ} {next : ℕ} (so : SoFar list at i) (n : NextPart s at word number next) where
-    -- an empty part
-    pub passed : word ≡ false → SoFar list next i
-    passed e =
-        let none : words_from s at ≡ words_from s next = ap kept n.is ∙ kept_empty n.part (parts_from s next) (leb-false 1 (length n.part) (sym n.tested ∙ e)) in
-        record { room = so.room; few = so.few; counted = rw none at so.counted; read = rw none at so.read }
+-- where the loop stands, with i words of the line s read and the rest to come: what is read, and the words of the rest, are the words
+pub record SoFar (s : Bytes) (list : List ℤ) (rest : Bytes) (i : ℕ) : Type 0 where
+  pub room : length list ≡ 16
+  pub small : SmallList 16 list
+  pub counted : i + length (words rest) ≡ length (words s)
+  pub fit : i + passing fits (words rest) ≡ passing fits (words s)
+  pub read : take i list ++ map number_of (words rest) ≡ map number_of (words s)
 
-    module _ (is_IsWord : word ≡ true) where
-      words_are : words_from s at ≡ n.part ∷ words_from s next
-      words_are = ap kept n.is ∙ kept_word n.part (parts_from s next) (leb-true 1 (length n.part) (sym n.tested ∙ is_IsWord))
+module _ {s : Bytes} {list : List ℤ} {rest next w : Bytes} {i : ℕ} (so : SoFar s list rest i) (first : words rest ≡ w ∷ words next) where
+  -- a word that fits, as the code holds its number
+  pub turn : (z : ℤ) → fits w ≡ true → z ≡ number_of w → length (words s) ≤ 16 → SoFar s (set list i (held z)) next (i + 1)
+  turn z e is few =
+      let small = fits_small w e in
+      let same : held z ≡ number_of w = rw is (small_back (number_of w) small (lit< tt)) in
+      let long : length (words rest) ≡ suc (length (words next)) = ap length first in
+      let below : i < length list = omega (arith, so.room, so.counted, long, few) in
+      let one : passing fits (words rest) ≡ suc (passing fits (words next)) = rw (first, e) in
+      record {
+        room = length-set list i (held z) ∙ so.room;
+        small = small_set list i (held z) so.small (rw same small);
+        counted = omega (arith, so.counted, long);
+        fit = omega (arith, so.fit, one);
+        read = rw (add-one i, take-suc-set list i (held z) below, append_assoc, same) (rw first at so.read);
+      }
 
-      long : length (words_from s at) ≡ suc (length (words_from s next))
-      long = ap length words_are
+-- a word that does not
+pub stop : {s : Bytes} {list : List ℤ} {rest w : Bytes} {ws : List Bytes} {i : ℕ} → SoFar s list rest i → words rest ≡ w ∷ ws → (n : ℕ) → fits w ≡ false → length (words s) ≡ n * n → not_whole n i ≡ entries_in n (words s)
+unfolding entries_in
+stop {s} {list} {rest} {w} {ws} {i} so first n e long =
+    let some : length (words rest) ≡ suc (length ws) = ap length first in
+    let none : passing fits (words rest) ≡ 0 = rw (first, e) in
+    let here : passing fits (words s) ≡ i = omega (arith, so.fit, none) in
+    let fewer : i ≡ n * n → ⊥ = λ same. omega (arith, so.counted, some, long, same) in
+    rw (here, ne_eqb i (n * n) fewer)
 
-      -- a word too many
-      pub too_many : i ≡ count → Numbers s from count false list
-      too_many e =
-          let other : eqb (length (words_from s from)) count ≡ false = ne_eqb (length (words_from s from)) count (λ same. omega (arith, so.counted, long)) in
-          record { room = so.room; tested = sym other; read = λ t. differ (sym t) }
-
-      -- a word more, as the code holds it
-      pub turn : (i ≡ count → ⊥) → count ≤ 16 → SoFar (set list i (signs_held number)) next (i + 1)
-      turn other most =
-          let below : i < length list = omega (arith, so.few, so.room, other) in
-          record {
-            room = length-set list i (signs_held number) ∙ so.room;
-            few = omega (arith, so.few, other);
-            counted = omega (arith, so.counted, long);
-            read = rw (add-one i, take-suc-set list i (signs_held number) below, append_assoc, held_back n.part number n.read) (rw words_are at so.read);
-          }
-
-  -- no part left
-  pub ended : {list : List ℤ} {at i : ℕ} → SoFar list at i → length s < at → Numbers s from count (eqb i count) list
-  unfolding parts_from kept
-  ended {list} {at} {i} so past =
-      let none : words_from s at ≡ [] = rw (lt-leb at (length s) past) in
-      let length_is : length (words_from s from) ≡ i = sym so.counted ∙ rw none (omega arith) in
-      let read_is : take i list ≡ map held (words_from s from) = sym (append-nil (take i list)) ∙ rw none at so.read in
-      record { room = so.room; tested = rw length_is; read = λ t. rw (sym (eqb-true i count t)) read_is }
+-- no word left
+pub ended : {s : Bytes} {list : List ℤ} {rest : Bytes} {i : ℕ} (n : ℕ) → SoFar s list rest i → words rest ≡ [] → length (words s) ≡ n * n → matrix n (take (n * n) list) ≡ entries_in n (words s)
+unfolding entries_in
+ended {s} {list} {rest} {i} n so none long =
+    let count : i ≡ n * n = omega (arith, so.counted, ap length none, long) in
+    let all_fit : passing fits (words s) ≡ n * n = sym so.fit ∙ rw none (omega (arith, count)) in
+    let read_is : take (n * n) list ≡ map number_of (words s) = rw count at (sym (append-nil (take i list)) ∙ rw none at so.read) in
+    rw (eq-eqb (passing fits (words s)) (n * n) all_fit, read_is)

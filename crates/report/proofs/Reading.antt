@@ -1,10 +1,14 @@
--- Laws of words: how the tests and the loops of the code read them.
+-- Laws of words: how the code reads them.
 -- Assumes nothing.
-use Rattle.std.proofs.Common.{◌≡◌, ℕ, suc, ◌+◌, ◌-◌, ◌*◌, ◌<◌, ◌≤◌, min, Bool, true, false, cond, ◌&&◌, eqb, leb, List, [], ◌∷◌, ◌++◌, length, get_or, take, drop, ℤ, sym, refl, ap, ◌∙◌, append_assoc, append-nil, add-one, arith, length-drop, drop_of_length-le, length-take-le, take_all, drop-cons, take-suc, drop-drop, le-leb, leb-false, leb-true}
-use borrow.Author.Tests.{lt-leb}
+use Rattle.std.proofs.Common.{◌≡◌, ℕ, zero, suc, ◌+◌, ◌-◌, ◌*◌, ◌<◌, ◌≤◌, min, Bool, true, false, cond, ◌&&◌, eqb, leb, List, [], ◌∷◌, length, get_or, take, drop, sym, refl, ap, ◌∙◌, add-one, arith, take_all, length-drop, leb-true, eq-eqb, ne_eqb, eqb-true, true≢false, Bor, Option, Some, None, MatchOption}
+use borrow.Author.Tests.{eqb-false}
+use lib.Pointwise.{pointwise}
+use lib.Seq.{drop-nil}
+use Rattle.std.specs.List.{starts_with, prefix_len, take_while}
+use Rattle.std.specs.Option.{unwrap_or}
 use Rattle.report.specs.Text.{Bytes}
-use Rattle.report.specs.Words.{all, passing, is_blank, lead, parts, kept, words, order_of, negative, digits_of, is_digit, is_number, value}
-use Rattle.report.specs.Read.{parts_from, words_from, held, Skipped, FirstPart, NextPart}
+use Rattle.report.specs.Words.{passing, is_blank, lead, parts, kept, words, same, order_of, negative, digits_of, value}
+use Rattle.report.specs.Read.{is_other}
 
 -- ---- the order
 
@@ -15,6 +19,18 @@ one_byte [] e = absurd (omega arith)
 one_byte (b ∷ []) e = refl
 one_byte (b ∷ d ∷ w) e = absurd (omega arith)
 
+-- which is no order
+pub other_byte : (w : Bytes) → length w ≡ 1 → (get_or w 0 0 ≡ 50 → ⊥) → (get_or w 0 0 ≡ 51 → ⊥) → (get_or w 0 0 ≡ 52 → ⊥) → order_of w ≡ 0
+other_byte w long x y z = one_byte w long ∙ by_test (leb 50 b) (leb b 52) refl refl
+  where
+    b : ℕ
+    b = get_or w 0 0
+
+    by_test : (s t : Bool) → leb 50 b ≡ s → leb b 52 ≡ t → cond (s && t) (b - 48) 0 ≡ 0
+    by_test true true e f = absurd (omega (arith, x, y, z, leb-true 50 b e, leb-true b 52 f))
+    by_test true false e f = refl
+    by_test false t e f = refl
+
 -- any other word
 pub other_length : (w : Bytes) → (length w ≡ 1 → ⊥) → order_of w ≡ 0
 unfolding order_of
@@ -22,100 +38,112 @@ other_length [] none = refl
 other_length (b ∷ []) none = absurd (none refl)
 other_length (b ∷ d ∷ w) none = refl
 
--- ---- the minus sign
-
-pub sign_none : (w : Bytes) → length w ≡ 0 → false ≡ negative w
-unfolding negative
-sign_none [] e = refl
-sign_none (b ∷ w) e = absurd (omega arith)
-
-pub sign_some : (w : Bytes) → (length w ≡ 0 → ⊥) → eqb (get_or w 0 0) 45 ≡ negative w
-unfolding negative
-sign_some [] none = absurd (none refl)
-sign_some (b ∷ w) none = refl
-
--- where the digits start
-pub after_sign : (w : Bytes) → negative w ≡ true → (1 ≤ length w) × (drop 1 w ≡ digits_of w)
-unfolding negative digits_of
-after_sign [] e = let z : ◌≡◌ {A = ℕ} 0 1 = cc in absurd (omega arith)
-after_sign (b ∷ w) e = (omega arith, rw e)
-
-pub no_sign : (w : Bytes) → negative w ≡ false → (0 ≤ length w) × (drop 0 w ≡ digits_of w)
-unfolding negative digits_of
-no_sign [] e = (omega arith, refl)
-no_sign (b ∷ w) e = (omega arith, rw e)
-
--- ---- the digits, and any test of every member
-
--- a member that passes, and the rest decides
-pub member_passes : {A : Type 0} (test : A → Bool) (d : A) (l : List A) (i : ℕ) → i < length l → test (get_or l i d) ≡ true → all test (drop i l) ≡ all test (drop (i + 1) l)
-member_passes test d l i h e = rw (add-one i, drop-cons l i d h, e)
-
--- a member that does not
-pub member_fails : {A : Type 0} (test : A → Bool) (d : A) (l : List A) (i : ℕ) → i < length l → test (get_or l i d) ≡ false → all test (drop i l) ≡ false
-member_fails test d l i h e = rw (drop-cons l i d h, e)
-
--- past the end
-pub members_over : {A : Type 0} (test : A → Bool) (l : List A) (i : ℕ) → length l ≤ i → all test (drop i l) ≡ true
-members_over test l i h = rw (drop_of_length-le l {i = i} h)
-
--- a member that passes is counted
-pub passing_more : {A : Type 0} (test : A → Bool) (d : A) (l : List A) (i : ℕ) → i < length l → test (get_or l i d) ≡ true → passing test (drop i l) ≡ suc (passing test (drop (i + 1) l))
-passing_more test d l i h e = rw (add-one i, drop-cons l i d h, e)
-
--- one that does not ends the count
-pub passing_ends : {A : Type 0} (test : A → Bool) (d : A) (l : List A) (i : ℕ) → i < length l → test (get_or l i d) ≡ false → passing test (drop i l) ≡ 0
-passing_ends test d l i h e = rw (drop-cons l i d h, e)
-
--- past the end
-pub passing_over : {A : Type 0} (test : A → Bool) (l : List A) (i : ℕ) → length l ≤ i → passing test (drop i l) ≡ 0
-passing_over test l i h = rw (drop_of_length-le l {i = i} h)
-
--- some digits, and nothing else
-pub number_some : (w : Bytes) (k : ℕ) (r : Bool) → drop k w ≡ digits_of w → k < length w → r ≡ all is_digit (drop k w) → r ≡ is_number w
-unfolding is_number
-number_some w k r start h e = e ∙ rw (← start, le-leb 1 (length (drop k w)) (simp length-drop (omega arith)))
-
--- no digits
-pub number_none : (w : Bytes) (k : ℕ) → drop k w ≡ digits_of w → length w ≤ k → false ≡ is_number w
-unfolding is_number
-number_none w k start h = rw (← start, drop_of_length-le w {i = k} h)
-
 -- ---- the number of some digits, at most 1025
 
--- a number capped before the digits is capped the same after them
-cap : (n : ℕ) (w : Bytes) → min 1025 (value (min 1025 n) w) ≡ min 1025 (value n w)
-unfolding value
-cap n [] = omega arith
-cap n (b ∷ w) =
-    let same : min 1025 (min 1025 n * 10 + (b - 48)) ≡ min 1025 (n * 10 + (b - 48)) = omega arith in
-    sym (cap (min 1025 n * 10 + (b - 48)) w) ∙ ap (λ (m : ℕ). min 1025 (value m w)) same ∙ cap (n * 10 + (b - 48)) w
-
 -- a digit read
-pub cap_turn : (w : Bytes) (i n m : ℕ) → i < length w → m ≡ min 1025 (n * 10 + (get_or w i 0 - 48)) → min 1025 (value m (drop (i + 1) w)) ≡ min 1025 (value n (drop i w))
+value_more : (n : ℕ) (w : Bytes) (i : ℕ) → i < length w → value n (take (suc i) w) ≡ value n (take i w) * 10 + (get_or w i 0 - 48)
 unfolding value
-cap_turn w i n m h e = rw (e, cap (n * 10 + (get_or w i 0 - 48)) (drop (i + 1) w), drop-cons w i 0 h, add-one i)
+value_more n [] i h = absurd (omega arith)
+value_more n (b ∷ w) zero h = refl
+value_more n (b ∷ w) (suc i) h = value_more (n * 10 + (b - 48)) w i (omega arith)
 
--- past the end
-pub cap_over : (w : Bytes) (i n : ℕ) → length w ≤ i → n ≤ 1025 → min 1025 (value n (drop i w)) ≡ n
-unfolding value
-cap_over w i n h few = rw (drop_of_length-le w {i = i} h) (omega arith)
+pub cap_turn : (w : Bytes) (i n m : ℕ) → i < length w → n ≡ min 1025 (value 0 (take i w)) → m ≡ min 1025 (n * 10 + (get_or w i 0 - 48)) → m ≡ min 1025 (value 0 (take (i + 1) w))
+cap_turn w i n m h so e = rw (add-one i, value_more 0 w i h) (omega (arith, so, e))
 
--- ---- the first part
+-- ---- the minus sign
 
--- some bytes before the first of some parts
-abbrev pub join : Bytes → List Bytes → List Bytes
-join p [] = p ∷ []
-join p (w ∷ ws) = (p ++ w) ∷ ws
+-- the test of a byte, from either side
+either_side : (a b : ℕ) → eqb a b ≡ eqb b a
+either_side a b = by_test (eqb b a) refl
+  where
+    by_test : (t : Bool) → eqb b a ≡ t → eqb a b ≡ t
+    by_test true e = eq-eqb a b (sym (eqb-true b a e))
+    by_test false e = ne_eqb a b (λ f. eqb-false b a e (sym f))
 
--- one byte more
-join_lead : (p : Bytes) (b : ℕ) (ws : List Bytes) → join p (lead b ws) ≡ join (p ++ (b ∷ [])) ws
-join_lead p b [] = refl
-join_lead p b (w ∷ ws) = rw (append_assoc p (b ∷ []) w)
+pub sign_tested : (w : Bytes) (r : Bool) → r ≡ starts_with eqb w (45 ∷ []) → r ≡ negative w
+unfolding negative
+sign_tested [] r e = e
+sign_tested (b ∷ w) r e = e ∙ by_test (eqb b 45) (either_side 45 b)
+  where
+    by_test : (t : Bool) → eqb 45 b ≡ t → eqb 45 b && true ≡ t
+    by_test true e = rw e
+    by_test false e = rw e
 
--- no bytes
-join_none : (ws : List Bytes) → (w : Bytes) (vs : List Bytes) → ws ≡ w ∷ vs → ws ≡ join [] ws
-join_none ws w vs e = rw e
+-- the word without it
+pub sign_taken : (w : Bytes) (word d : Bor Bytes) (r : Option (Bor Bytes)) → word.now ≡ w
+    → MatchOption r (pointwise eqb (take 1 w) (45 ∷ []) ≡ false) (λ x. (pointwise eqb (take 1 w) (45 ∷ []) ≡ true) × (x.now ≡ drop 1 w) × (length x.now + 1 ≡ length w))
+    → d ≡ unwrap_or r word → d.now ≡ digits_of w
+unfolding digits_of
+sign_taken [] word d None is cases e = rw e is
+sign_taken [] word d (Some x) is cases e = absurd (omega (arith, cases.2))
+sign_taken (b ∷ w) word d r is cases e = by_test (eqb b 45) r refl cases e
+  where
+    by_test : (t : Bool) (r : Option (Bor Bytes)) → eqb b 45 ≡ t
+        → MatchOption r (t && true ≡ false) (λ x. (t && true ≡ true) × (x.now ≡ w) × (length x.now + 1 ≡ length (b ∷ w)))
+        → d ≡ unwrap_or r word → d.now ≡ cond t w (b ∷ w)
+    by_test true None f cases e = absurd (true≢false cases)
+    by_test true (Some x) f cases e = rw e cases.1
+    by_test false None f cases e = rw e is
+    by_test false (Some x) f cases e = absurd (true≢false (sym cases.0))
+
+-- ---- the word --help
+
+-- the same bytes
+pub same_is : (a b : Bytes) → pointwise eqb a b ≡ same a b
+unfolding same
+same_is [] [] = refl
+same_is [] (c ∷ b) = refl
+same_is (x ∷ a) [] = refl
+same_is (x ∷ a) (c ∷ b) = rw (same_is a b)
+
+pub same_as : (a b t : Bytes) → b ≡ t → pointwise eqb a b ≡ same a t
+same_as a b t e = rw e (same_is a t)
+
+-- ---- the first word
+
+-- how many members pass
+prefix_is : (test : ℕ → Bool) (s : Bytes) → prefix_len test s ≡ passing test s
+prefix_is test [] = refl
+prefix_is test (b ∷ s) = by_test (test b) (prefix_is test s)
+  where
+    by_test : (t : Bool) → prefix_len test s ≡ passing test s → cond t (1 + prefix_len test s) 0 ≡ cond t (suc (passing test s)) 0
+    by_test true e = omega arith
+    by_test false e = refl
+
+passing_long : (test : ℕ → Bool) (s : Bytes) → length (take (passing test s) s) ≡ passing test s
+passing_long test [] = refl
+passing_long test (b ∷ s) = by_test (test b) (passing_long test s)
+  where
+    by_test : (t : Bool) → length (take (passing test s) s) ≡ passing test s → length (take (cond t (suc (passing test s)) 0) (b ∷ s)) ≡ cond t (suc (passing test s)) 0
+    by_test true e = ap suc e
+    by_test false e = refl
+
+count_is : (test : ℕ → Bool) (s : Bytes) → length (take_while test s) ≡ passing test s
+count_is test s = ap (λ (k : ℕ). length (take k s)) (prefix_is test s) ∙ passing_long test s
+
+-- blanks at the start of a line are passed
+past_blanks : (s : Bytes) → words (drop (passing is_blank s) s) ≡ words s
+unfolding parts kept
+past_blanks [] = refl
+past_blanks (b ∷ s) = by_test (is_blank b) refl (past_blanks s)
+  where
+    by_test : (t : Bool) → is_blank b ≡ t → words (drop (passing is_blank s) s) ≡ words s → words (drop (cond t (suc (passing is_blank s)) 0) (b ∷ s)) ≡ words (b ∷ s)
+    by_test true e so = so ∙ sym (rw e)
+    by_test false e so = refl
+
+-- the first byte, or 0
+abbrev head : Bytes → ℕ
+head [] = 0
+head (y ∷ l) = y
+
+-- no blank stands at the start of what is left
+stands : (s : Bytes) (b : ℕ) (t : Bytes) → drop (passing is_blank s) s ≡ b ∷ t → is_blank b ≡ false
+stands [] b t e = absurd (let z : 0 ≡ suc (length t) = ap length e in omega arith)
+stands (x ∷ s) b t e = by_test (is_blank x) refl e (stands s b t)
+  where
+    by_test : (u : Bool) → is_blank x ≡ u → drop (cond u (suc (passing is_blank s)) 0) (x ∷ s) ≡ b ∷ t → (drop (passing is_blank s) s ≡ b ∷ t → is_blank b ≡ false) → is_blank b ≡ false
+    by_test true f e so = so e
+    by_test false f e so = ap is_blank (sym (ap head e)) ∙ f
 
 -- a line has a first part
 pub some_part : (s : Bytes) → (w : Bytes) × (ws : List Bytes) × (parts s ≡ w ∷ ws)
@@ -127,149 +155,88 @@ some_part (b ∷ s) = by_test (is_blank b) (some_part s)
     by_test true rest = ([], parts s, refl)
     by_test false rest = (b ∷ rest.0, rest.1, rw rest.2)
 
--- where the loop stands at place i: no blank so far
-pub record NoBlank (s : Bytes) (i : ℕ) : Type 0 where
-  pub within : i ≤ length s
-  pub is : parts s ≡ join (take i s) (parts (drop i s))
+-- the parts after the first one, of what is left of a line
+abbrev after_part : Bytes → List Bytes
+after_part [] = []
+after_part (b ∷ s) = parts s
 
-pub no_blank_yet : (s : Bytes) → NoBlank s 0
-no_blank_yet s = let some = some_part s in record { within = omega arith; is = join_none (parts s) some.0 some.1 some.2 }
-
-pub no_blank_turn : (s : Bytes) (i : ℕ) → i < length s → is_blank (get_or s i 0) ≡ false → NoBlank s i → NoBlank s (i + 1)
+-- the first part is what stands before the first blank
+first_part : (s : Bytes) → parts s ≡ take (passing is_other s) s ∷ after_part (drop (passing is_other s) s)
 unfolding parts
-no_blank_turn s i h other n =
-    record {
-      within = omega arith;
-      is = n.is ∙ rw (add-one i, drop-cons s i 0 h, other, take-suc s i 0 h) (join_lead (take i s) (get_or s i 0) (parts (drop (suc i) s)));
-    }
-
-pub blank_found : (s : Bytes) (i : ℕ) → i < length s → is_blank (get_or s i 0) ≡ true → NoBlank s i → FirstPart s i
-unfolding parts parts_from
-blank_found s i h blank n =
-    record {
-      within = omega arith;
-      is = n.is ∙ rw (drop-cons s i 0 h, blank, append-nil, le-leb (i + 1) (length s) (omega arith), add-one i);
-    }
-
-pub line_over : (s : Bytes) (i : ℕ) → length s ≤ i → NoBlank s i → FirstPart s i
-unfolding parts parts_from
-line_over s i h n =
-    record {
-      within = n.within;
-      is = n.is ∙ rw (drop_of_length-le s {i = i} h, append-nil, lt-leb (i + 1) (length s) (omega arith));
-    }
-
--- ---- blanks in front
-
--- a part that is a word, and one that is empty
-pub kept_word : (p : Bytes) (ps : List Bytes) → 1 ≤ length p → kept (p ∷ ps) ≡ p ∷ kept ps
-unfolding kept
-kept_word [] ps h = absurd (omega arith)
-kept_word (b ∷ p) ps h = refl
-
-pub kept_empty : (p : Bytes) (ps : List Bytes) → length p < 1 → kept (p ∷ ps) ≡ kept ps
-unfolding kept
-kept_empty [] ps h = refl
-kept_empty (b ∷ p) ps h = absurd (omega arith)
-
--- where the loop stands at place i: blanks so far
-pub record Blanks (s : Bytes) (i : ℕ) : Type 0 where
-  pub within : i ≤ length s
-  pub is : words s ≡ words_from s i
-
-pub blanks_none : (s : Bytes) → Blanks s 0
-unfolding parts_from
-blanks_none s = record { within = omega arith; is = rw (le-leb 0 (length s) (omega arith)) }
-
-pub blanks_turn : (s : Bytes) (i : ℕ) → i < length s → is_blank (get_or s i 0) ≡ true → Blanks s i → Blanks s (i + 1)
-unfolding parts_from parts kept
-blanks_turn s i h blank b =
-    record {
-      within = omega arith;
-      is = b.is ∙ rw (le-leb i (length s) (omega arith), le-leb (i + 1) (length s) (omega arith), drop-cons s i 0 h, blank, add-one i);
-    }
-
-pub blanks_end : (s : Bytes) (i : ℕ) → is_blank (get_or s i 0) ≡ false → Blanks s i → Skipped s i
-blanks_end s i other b = record { within = b.within; is = b.is; next = λ h. other }
-
-pub blanks_over : (s : Bytes) (i : ℕ) → length s ≤ i → Blanks s i → Skipped s i
-blanks_over s i h b = record { within = b.within; is = b.is; next = λ l. absurd (omega arith) }
-
--- ---- one part after another
-
--- a list that begins with no bytes does not begin with some
-first_long : (w : Bytes) {ps qs : List Bytes} → [] ∷ ps ≡ w ∷ qs → 0 < length w → ⊥
-first_long w e h = let z : 0 ≡ length w = ap first_length e in omega arith
+first_part [] = refl
+first_part (b ∷ s) = by_test (is_blank b) (first_part s)
   where
-    first_length : List Bytes → ℕ
-    first_length [] = 0
-    first_length (w ∷ ws) = length w
+    by_test : (t : Bool) → parts s ≡ take (passing is_other s) s ∷ after_part (drop (passing is_other s) s)
+        → cond t ([] ∷ parts s) (lead b (parts s)) ≡ take (cond (cond t false true) (suc (passing is_other s)) 0) (b ∷ s) ∷ after_part (drop (cond (cond t false true) (suc (passing is_other s)) 0) (b ∷ s))
+    by_test true e = refl
+    by_test false e = rw e
 
--- two tests that agree
-pub agree : (a b : ℕ) (k l : ℕ) → (a ≤ k → b ≤ l) → (k < a → l < b) → leb a k ≡ leb b l
-agree a b k l below other = by_test (leb a k) refl
+-- the words after it
+after_words : (s : Bytes) → kept (after_part (drop (passing is_other s) s)) ≡ words (drop (passing is_other s) s)
+unfolding parts kept
+after_words [] = refl
+after_words (b ∷ s) = by_test (is_blank b) refl (after_words s)
   where
-    by_test : (t : Bool) → leb a k ≡ t → leb a k ≡ leb b l
-    by_test true e = e ∙ sym (le-leb b l (below (leb-true a k e)))
-    by_test false e = e ∙ sym (lt-leb b l (other (leb-false a k e)))
+    by_test : (t : Bool) → is_blank b ≡ t → kept (after_part (drop (passing is_other s) s)) ≡ words (drop (passing is_other s) s)
+        → kept (after_part (drop (cond (cond t false true) (suc (passing is_other s)) 0) (b ∷ s))) ≡ words (drop (cond (cond t false true) (suc (passing is_other s)) 0) (b ∷ s))
+    by_test true e so = sym (rw e)
+    by_test false e so = so
 
--- a place past the start of a part is a place of the line
-later_parts : (s : Bytes) (at n : ℕ) → at ≤ length s → parts_from (drop at s) (n + 1) ≡ parts_from s (at + n + 1)
-unfolding parts_from
-later_parts s at n h =
-    let same : leb (n + 1) (length (drop at s)) ≡ leb (at + n + 1) (length s) = rw length-drop (agree (n + 1) (at + n + 1) (length s - at) (length s) (λ l. omega arith) (λ l. omega arith)) in
-    let place : at + (n + 1) ≡ at + n + 1 = omega arith in
-    rw (same, drop-drop (n + 1) at s, place)
+-- a part with bytes is a word
+kept_word : (w : Bytes) (ps : List Bytes) → (length w ≡ 0 → ⊥) → kept (w ∷ ps) ≡ w ∷ kept ps
+unfolding kept
+kept_word [] ps some = absurd (some refl)
+kept_word (b ∷ w) ps some = refl
 
--- the rest of a line is all of it from a place on
-pub rest_is : (s : Bytes) (at : ℕ) → take (length s - at) (drop at s) ≡ drop at s
-rest_is s at = take_all (length s - at) (drop at s) (simp length-drop (omega arith))
+module _ (s from w r : Bytes) (k j : ℕ) (blanks : k ≡ length (take_while is_blank s)) (here : from ≡ take (length s - k) (drop k s)) (others : j ≡ length (take_while is_other from)) (front : w ≡ take j from) (back : r ≡ drop j from) where
+  from_is : from ≡ drop (passing is_blank s) s
+  from_is = here ∙ take_all (length s - k) (drop k s) (simp length-drop (omega arith)) ∙ ap (λ (k : ℕ). drop k s) (blanks ∙ count_is is_blank s)
 
-module _ (s rest : Bytes) (at n : ℕ) (h : at ≤ length s) (here : rest ≡ take (length s - at) (drop at s)) (first : FirstPart rest n) where
-  all_rest : rest ≡ drop at s
-  all_rest = here ∙ rest_is s at
+  count : j ≡ passing is_other from
+  count = others ∙ count_is is_other from
 
-  long : length rest ≡ length s - at
-  long = ap length all_rest ∙ length-drop at s
+  same_words : words from ≡ words s
+  same_words = ap words from_is ∙ past_blanks s
 
-  -- the part at a place, and those after it
-  pub part_here : parts_from s at ≡ take n rest ∷ parts_from s (at + n + 1)
-  unfolding parts_from
-  part_here = rw (le-leb at (length s) h, ← all_rest) (first.is ∙ rw (all_rest) (ap (λ ws. take n (drop at s) ∷ ws) (later_parts s at n h)))
+  -- a part without bytes is the line's end
+  pub word_ends : length w ≡ 0 → (words s ≡ []) × (words r ≡ [])
+  unfolding parts kept
+  word_ends none = by_rest from from_is count front back same_words
+    where
+      by_rest : (f : Bytes) → f ≡ drop (passing is_blank s) s → j ≡ passing is_other f → w ≡ take j f → r ≡ drop j f → words f ≡ words s → (words s ≡ []) × (words r ≡ [])
+      by_rest [] e c p q so = (sym so, ap words (q ∙ drop-nil j))
+      by_rest (b ∷ t) e c p q so =
+          let one : passing is_other (b ∷ t) ≡ suc (passing is_other t) = rw (stands s b t (sym e)) in
+          let long : length w ≡ suc (length (take (passing is_other t) t)) = rw (p, c, one) in
+          absurd (omega (arith, long, none))
 
-  -- which end one past the line at most
-  pub part_near : at + n + 1 ≤ length s + 1
-  part_near = omega (arith, first.within, long, h)
+  -- and one with bytes is the first word
+  pub word_next : (length w ≡ 0 → ⊥) → words s ≡ w ∷ words r
+  word_next some =
+      let w_is : w ≡ take (passing is_other from) from = front ∙ rw count in
+      let r_is : r ≡ drop (passing is_other from) from = back ∙ rw count in
+      sym same_words ∙ ap kept (first_part from) ∙ kept_word (take (passing is_other from) from) _ (λ e. some (ap length w_is ∙ e)) ∙ rw (← w_is, after_words from, ← r_is)
 
-  -- how long it is
-  pub part_long : length (take n rest) ≡ n
-  part_long = length-take-le n rest first.within
+  -- after which fewer are left
+  pub word_less : (length w ≡ 0 → ⊥) → length (words r) < length (words s)
+  word_less some = omega (arith, ap length (word_next some))
 
-  -- as the code holds it
-  pub next_part : (word : Bool) (number : ℤ) → word ≡ leb 1 n → number ≡ held (take n rest) → NextPart s at word number (at + n + 1)
-  next_part word number tested read =
-      record { part = take n rest; is = part_here; tested = rw part_long tested; read = read; later = omega arith; near = part_near }
+-- ---- how many words there are
 
-  module _ (skipped : Skipped s at) where
-    -- after the blanks, a part without bytes is the line's end
-    none_left : n ≡ 0 → at ≡ length s
-    unfolding parts
-    none_left none = by_test (leb (length s) at) refl
-      where
-        by_test : (t : Bool) → leb (length s) at ≡ t → at ≡ length s
-        by_test true e = omega (arith, leb-true (length s) at e, h)
-        by_test false e =
-            let inside : at < length s = leb-false (length s) at e in
-            absurd (not-empty (get_or s at 0) (drop (suc at) s) (skipped.next inside) (sym (rw (all_rest, drop-cons s at 0 inside, none) at first.is)))
-          where
-            not-empty : (b : ℕ) (t : Bytes) → is_blank b ≡ false → {ps : List Bytes} → [] ∷ ps ≡ parts (b ∷ t) → ⊥
-            not-empty b t other e = let some = some_part t in first_long (b ∷ some.0) (rw (other, some.2) at e) (omega arith)
+-- the parts after the first are as many words, or one fewer
+kept_fewer : (p : Bytes) (ps : List Bytes) → length (kept ps) ≤ length (kept (p ∷ ps))
+unfolding kept
+kept_fewer [] ps = omega arith
+kept_fewer (b ∷ p) ps = omega arith
 
-    -- no word in it
-    pub no_word : n ≡ 0 → words s ≡ []
-    unfolding parts_from parts kept
-    no_word none = skipped.is ∙ rw (none_left none, le-leb (length s) (length s) (omega arith), drop_of_length-le s {i = length s} (omega arith))
-
-    -- the first word
-    pub first_word : 1 ≤ n → words s ≡ take n rest ∷ words_from s (at + n + 1)
-    first_word some = skipped.is ∙ rw part_here (kept_word (take n rest) (parts_from s (at + n + 1)) (rw part_long some))
+-- a line has no more words than bytes
+pub words_few : (s : Bytes) → length (words s) ≤ length s
+unfolding parts kept
+words_few [] = omega arith
+words_few (b ∷ s) = by_test (is_blank b) (some_part s) (words_few s)
+  where
+    by_test : (t : Bool) → (w : Bytes) × (ws : List Bytes) × (parts s ≡ w ∷ ws) → length (words s) ≤ length s → length (kept (cond t ([] ∷ parts s) (lead b (parts s)))) ≤ suc (length s)
+    by_test true some few = omega arith
+    by_test false some few =
+        let less : length (kept some.1) ≤ length (kept (parts s)) = rw some.2 (kept_fewer some.0 some.1) in
+        rw some.2 (omega (arith, less, few))

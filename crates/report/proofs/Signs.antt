@@ -1,14 +1,15 @@
 -- Whole numbers as the code holds them, in 64 bits with a sign, and how they are written.
 -- Assumes nothing.
-use Rattle.std.proofs.Common.{◌≡◌, ℕ, ◌^◌, ◌<◌, ◌≤◌, min, Bool, true, false, cond, T, ◌++◌, ℤ, pos, negsuc, ◌-ℤ◌, neg_ℤ, nat_abs, sym, ap, ◌∙◌, subst, lt_of_le_of_lt, arith, lit<, w64, SFits, to_z, of_z, ltb-true}
+use Rattle.std.proofs.Common.{◌≡◌, ℕ, ◌^◌, ◌<◌, ◌≤◌, min, Bool, true, false, T, ◌&&◌, leb, [], ◌∷◌, ◌++◌, length, ℤ, pos, negsuc, ◌-ℤ◌, neg_ℤ, nat_abs, sym, refl, ap, ◌∙◌, subst, lt_of_le_of_lt, arith, lit<, w64, to_z, of_z, ltb-true, le-leb, leb-true}
+use borrow.Author.Tests.{lt-leb}
 use lib.IntN.{+ℤ_idl}
 use lib.Signed.{mag, lt_z}
 use mir.ValLaws.{to_z_pos}
-use Rattle.engine.proofs.Signed.{back, small_fits, small_back}
+use Rattle.std.specs.List.{list_all}
+use Rattle.engine.proofs.Signed.{back, small_back}
 use Rattle.whole.proofs.Ring.{abs_neg}
 use Rattle.exact.specs.Value.{signed}
-use Rattle.report.specs.Words.{negative, digits_of, is_number, value}
-use Rattle.report.specs.Read.{held as read_held}
+use Rattle.report.specs.Words.{all, negative, digits_of, is_digit, is_number, value, number_of, fits}
 use Rattle.report.specs.Text.{Bytes, text, decimal, whole}
 
 -- the test below zero, of the number itself
@@ -22,6 +23,11 @@ differ e = absurd (subst T e tt)
 -- below zero no number has no sign
 never_below : {A : Type 0} (n : ℕ) → lt_z (pos n) (pos 0) ≡ true → A
 never_below n t = absurd (omega (arith, ltb-true n 0 t))
+
+-- the magnitude of a number with its sign
+magnitude : (b : Bool) (n : ℕ) → nat_abs (signed b n) ≡ n
+magnitude true n = abs_neg (pos n)
+magnitude false n = refl
 
 -- what the code holds of a number
 abbrev pub held : ℤ → ℤ
@@ -45,52 +51,66 @@ other_text z n h t e = by_sign z (tested z false h t) (rw (back z h) at e)
     by_sign (pos k) t e = rw e
     by_sign (negsuc k) t e = differ t
 
--- ---- a magnitude of at most 1025, with its sign
+-- ---- a magnitude of at most 1024, with its sign
 
 -- the code subtracts it from 0
-pub minus : (n : ℕ) → n ≤ 1025 → pos 0 -ℤ to_z w64 n ≡ neg_ℤ (pos n)
+minus : (n : ℕ) → n ≤ 1024 → pos 0 -ℤ to_z w64 n ≡ neg_ℤ (pos n)
 minus n h = rw (to_z_pos w64 n (lt_of_le_of_lt h (lit< tt))) (+ℤ_idl (neg_ℤ (pos n)))
 
-small : (n : ℕ) → n ≤ 1025 → nat_abs (neg_ℤ (pos n)) ≤ 1025
-small n h = rw (abs_neg (pos n)) h
+magnitude_few : (n : ℕ) → n ≤ 1024 → nat_abs (neg_ℤ (pos n)) ≤ 1024
+magnitude_few n h = rw (abs_neg (pos n)) h
 
-pub minus_fits : (n : ℕ) → n ≤ 1025 → SFits w64 (pos 0 -ℤ to_z w64 n)
-minus_fits n h = rw (minus n h) (small_fits (neg_ℤ (pos n)) (small n h) (lit< tt))
+-- every member passes
+all_is : (test : ℕ → Bool) (w : Bytes) → list_all test w ≡ all test w
+all_is test [] = refl
+all_is test (b ∷ w) = rw (all_is test w)
 
--- so the word's number is read, below zero and not
-module _ (w : Bytes) (n : ℕ) (is : n ≡ min 1025 (value 0 (digits_of w))) where
-  few : n ≤ 1025
-  few = omega (arith, is)
+module _ (w d : Bytes) (is : d ≡ digits_of w) where
+  -- a word without digits does not fit
+  pub no_digits : length d ≡ 0 → fits w ≡ false
+  unfolding fits is_number
+  no_digits none = rw (← is, lt-leb 1 (length d) (omega (arith, none)))
 
-  pub read_fits : SFits w64 (pos 0 -ℤ to_z w64 n)
-  read_fits = minus_fits n few
+  -- nor does one with another byte
+  pub no_number : list_all is_digit d ≡ false → fits w ≡ false
+  unfolding fits is_number
+  no_number other = rw (← is, ← all_is is_digit d, other) (by_test (leb 1 (length d)))
+    where
+      by_test : (t : Bool) → (t && false) && leb (value 0 d) 1024 ≡ false
+      by_test true = refl
+      by_test false = refl
 
-  pub read_negative : is_number w ≡ true → negative w ≡ true → to_z w64 (of_z w64 (pos 0 -ℤ to_z w64 n)) ≡ read_held w
-  unfolding read_held
-  read_negative number t = rw (minus n few, small_back (neg_ℤ (pos n)) (small n few) (lit< tt), number, t, is)
+  module _ (m : ℕ) (capped : m ≡ min 1025 (value 0 d)) where
+    -- nor one with a larger number
+    pub too_large : 1024 < m → fits w ≡ false
+    unfolding fits
+    too_large more = by_test (is_number w)
+      where
+        by_test : (t : Bool) → t && leb (value 0 (digits_of w)) 1024 ≡ false
+        by_test true = rw (← is) (lt-leb (value 0 d) 1024 (omega (arith, capped)))
+        by_test false = refl
 
-  pub read_other : is_number w ≡ true → negative w ≡ false → to_z w64 n ≡ read_held w
-  unfolding read_held
-  read_other number t = rw (to_z_pos w64 n (lt_of_le_of_lt few (lit< tt)), number, t, is)
+    module _ (some : length d ≡ 0 → ⊥) (every : list_all is_digit d ≡ true) (few : m ≤ 1024) where
+      -- any other fits
+      pub fitting : fits w ≡ true
+      unfolding fits is_number
+      fitting = rw (← is, le-leb 1 (length d) (omega (arith, some)), ← all_is is_digit d, every, le-leb (value 0 d) 1024 (omega (arith, capped)))
 
--- and any other word as 1025
-pub read_none : (w : Bytes) → is_number w ≡ false → pos 1025 ≡ read_held w
-unfolding read_held
-read_none w e = rw e
+      value_is : value 0 (digits_of w) ≡ m
+      value_is = rw (← is) (omega (arith, capped))
 
--- what the code holds of a word is of magnitude at most 1025
-pub held_small : (w : Bytes) → nat_abs (read_held w) ≤ 1025
-unfolding read_held
-held_small w = by_test (is_number w)
+      -- the number that the code makes of it, below zero and not
+      pub read_negative : negative w ≡ true → to_z w64 (of_z w64 (pos 0 -ℤ to_z w64 m)) ≡ number_of w
+      read_negative t = rw (t, value_is, minus m few, small_back (neg_ℤ (pos m)) (magnitude_few m few) (lit< tt))
+
+      pub read_other : negative w ≡ false → to_z w64 m ≡ number_of w
+      read_other t = rw (t, value_is, to_z_pos w64 m (lt_of_le_of_lt few (lit< tt)))
+
+-- a word that fits is a number of magnitude at most 1024
+pub fits_small : (w : Bytes) → fits w ≡ true → nat_abs (number_of w) ≤ 1024
+unfolding fits
+fits_small w = by_test (is_number w)
   where
-    by_sign : (b : Bool) (n : ℕ) → n ≤ 1025 → nat_abs (signed b n) ≤ 1025
-    by_sign true n h = small n h
-    by_sign false n h = h
-
-    by_test : (t : Bool) → nat_abs (cond t (signed (negative w) (min 1025 (value 0 (digits_of w)))) (pos 1025)) ≤ 1025
-    by_test true = by_sign (negative w) (min 1025 (value 0 (digits_of w))) (omega arith)
-    by_test false = omega arith
-
--- so it is read back
-pub held_back : (w : Bytes) (z : ℤ) → z ≡ read_held w → held z ≡ read_held w
-held_back w z e = rw e (small_back (read_held w) (held_small w) (lit< tt))
+    by_test : (t : Bool) → t && leb (value 0 (digits_of w)) 1024 ≡ true → nat_abs (number_of w) ≤ 1024
+    by_test true e = rw (magnitude (negative w) (value 0 (digits_of w))) (leb-true (value 0 (digits_of w)) 1024 e)
+    by_test false e = differ (sym e)

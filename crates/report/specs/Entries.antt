@@ -1,6 +1,6 @@
 -- A matrix whose entries stand in a list, column by column, and its entries as floats.
 -- Assumes nothing.
-use Rattle.std.specs.Prelude.{◌≡◌, ℕ, ◌+◌, ◌*◌, ◌<◌, ◌≤◌, Bool, List, ℤ, pos, nat_le, slice_index_or, unsigned_abs, Float}
+use Rattle.std.specs.Prelude.{◌≡◌, ℕ, ◌+◌, ◌*◌, ◌<◌, ◌≤◌, List, ℤ, pos, slice_index_or, unsigned_abs, Float}
 use Rattle.std.specs.Float.{binary64}
 use Rattle.std.specs.Float.Ieee.{of_int}
 use Rattle.vector.specs.Refusals.{Outcome, given, refused}
@@ -10,10 +10,6 @@ use Rattle.engine.specs.Whole.{Floats}
 -- column c, row r of order n stands at c * n + r
 abbrev pub columns : ℕ → List ℤ → Matrix
 columns n list = λ c r. slice_index_or list (c * n + r) (pos 0)
-
--- a whole number of magnitude at most 1024
-abbrev pub small : ℤ → Bool
-small z = nat_le (unsigned_abs z) 1024
 
 -- the first k numbers are of magnitude at most 1024
 pub record SmallList (k : ℕ) (list : List ℤ) : Type 0 where

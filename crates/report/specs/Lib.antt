@@ -3,8 +3,10 @@ pub mod Written
 pub mod Words
 pub mod Read
 pub mod Entries
+pub mod Grid
 pub mod Line
 pub mod Report
+pub mod Shown
 pub mod Verdict
 pub mod Held
 pub mod Said

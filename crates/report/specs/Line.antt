@@ -1,14 +1,12 @@
 -- What a line of words holds: an order, and then the entries of a matrix column by column; or what is wrong with it.
 -- Assumes nothing.
-use Rattle.std.specs.Prelude.{◌≡◌, ℕ, ◌*◌, ◌^◌, ◌<◌, ◌≤◌, cond, List, [], ◌∷◌, map, length, take, ℤ, ◌==◌}
-use Rattle.std.specs.Int.Signed.{mag}
-use Rattle.whole.specs.Order.{exact_signed_sum}
-use Rattle.report.specs.declared.line.Found.{Found}
-use Rattle.report.specs.declared.line.Found.TheVariants as found
-use Rattle.report.specs.declared.line.Reading.{Reading}
+use Rattle.std.specs.Prelude.{ℕ, ◌*◌, cond, List, [], ◌∷◌, map, length, take, ℤ, ◌==◌, Result, Ok, Err}
+use Rattle.report.specs.declared.grid.Grid.{Grid}
+use Rattle.report.specs.declared.line.Fault.{Fault}
+use Rattle.report.specs.declared.line.Fault.TheVariants.{NoOrder, OtherCount, NotWhole}
 use Rattle.report.specs.Text.{Bytes}
 use Rattle.report.specs.Words.{words, order_of, fits, passing, number_of}
-use Rattle.report.specs.Entries.{columns, Square}
+use Rattle.report.specs.Grid.{size, order_in}
 
 -- no order; an order with another number of words behind it; with a word at a place that is no whole number of magnitude at most 1024; a matrix of whole numbers
 pub data Line : Type 0 where
@@ -36,25 +34,13 @@ line_of s = line_in (words s)
 
 -- ---- how the code holds it
 
--- the line that a reading stands for
-unfoldable pub meant : Reading → Line
-meant r = by r.found
-  where
-    by : Found → Line
-    by found.NoOrder = no_order
-    by found.OtherCount = other_count r.order
-    by found.NotWhole = not_whole r.order r.place
-    by found.Matrix = matrix r.order (take (r.order * r.order) r.list)
+-- what is wrong with a line
+abbrev pub fault_meant : Fault → Line
+fault_meant NoOrder = no_order
+fault_meant (OtherCount order) = other_count (size order)
+fault_meant (NotWhole order place) = not_whole (size order) place
 
--- what a reading holds beside that: of a matrix, which is small, the signed sum
-pub record Holds (r : Reading) : Type 0 where
-  pub few : r.order ≤ 4
-  pub in_range : mag r.sum < 2 ^ 63
-  pub some : r.found ≡ found.NotWhole → 0 < r.order
-  pub square : r.found ≡ found.Matrix → Square r.order r.list
-  pub summed : r.found ≡ found.Matrix → r.sum ≡ exact_signed_sum r.order (columns r.order r.list)
-
--- a reading of a line
-pub record Reads (s : Bytes) (r : Reading) : Type 0 where
-  pub is : meant r ≡ line_of s
-  pub holds : Holds r
+-- the line that an answer stands for
+abbrev pub meant : Result Grid Fault → Line
+meant (Err fault) = fault_meant fault
+meant (Ok g) = matrix (order_in g) (take (order_in g * order_in g) g.entries)

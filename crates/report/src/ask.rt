@@ -1,104 +1,83 @@
 // The exact engine, asked about a matrix whose entries stand in a list column by column.
-ghost use Rattle.std.specs.Prelude.{◌≡◌, ◌+◌, ◌<◌, ◌≤◌, length, take};
+ghost use Rattle.std.specs.Prelude.{◌≡◌, ◌+◌, ◌<◌, ◌≤◌};
 ghost use Rattle.vector.specs.Refusals.{outcome};
 ghost use Rattle.vector.specs.Vectors.{vector2, vector3, vector4};
 ghost use Rattle.whole.specs.Order.{exact_signed_sum};
 ghost use Rattle.engine.specs.Whole.{floats2, floats3, floats4};
 ghost use Rattle.engine.specs.Engine.{cofactor_of};
-ghost use Rattle.report.specs.Words.{passing};
-ghost use Rattle.report.specs.Entries.{columns, small, SmallList, Square, float_at, AsFloats, number_in};
+ghost use Rattle.report.specs.Entries.{float_at, AsFloats, number_in};
+ghost use Rattle.report.specs.Grid.{order_in, matrix_in};
 
+use crate::grid::{Grid, Order};
 use matrix::{Column, Matrix2, Matrix3, Matrix4, Row};
 use vector::{Refusal, Vector2, Vector3, Vector4};
 
-// The largest magnitude that the engine takes.
-const LARGEST: u64 = 1024;
-
 // The number at a place of the list, as a float.
-fn float_at(list: [i64; 16], i: usize) -> f64
-    requires { (i < 16) × SmallList (i + 1) list }
-    ensures { result ≡ float_at list i }
+fn float_at(grid: &Grid, i: usize) -> f64
+    requires { i < 16 }
+    ensures { result ≡ float_at grid.now.entries i }
 {
-    let z = list[i];
+    let z = grid.entries[i];
     std::num::nearest_i64_to_f64(z)
 }
 
-// Two numbers from a place on.
-fn column2(list: [i64; 16], i: usize) -> Vector2
-    requires { (i + 2 ≤ 16) × SmallList (i + 2) list }
-    ensures { result ≡ vector2 (float_at list i) (float_at list (i + 1)) }
+// Two numbers from a place on. One function for each order from here on, since the engine's vectors and matrices are types of their own.
+fn column2(grid: &Grid, i: usize) -> Vector2
+    requires { i + 2 ≤ 16 }
+    ensures { result ≡ vector2 (float_at grid.now.entries i) (float_at grid.now.entries (i + 1)) }
 {
-    Vector2::new(float_at(list, i), float_at(list, i + 1))
+    Vector2::new(float_at(grid, i), float_at(grid, i + 1))
 }
 
 // Three numbers from a place on.
-fn column3(list: [i64; 16], i: usize) -> Vector3
-    requires { (i + 3 ≤ 16) × SmallList (i + 3) list }
-    ensures { result ≡ vector3 (float_at list i) (float_at list (i + 1)) (float_at list (i + 2)) }
+fn column3(grid: &Grid, i: usize) -> Vector3
+    requires { i + 3 ≤ 16 }
+    ensures { result ≡ vector3 (float_at grid.now.entries i) (float_at grid.now.entries (i + 1)) (float_at grid.now.entries (i + 2)) }
 {
     Vector3::new(
-        float_at(list, i),
-        float_at(list, i + 1),
-        float_at(list, i + 2),
+        float_at(grid, i),
+        float_at(grid, i + 1),
+        float_at(grid, i + 2),
     )
 }
 
 // Four numbers from a place on.
-fn column4(list: [i64; 16], i: usize) -> Vector4
-    requires { (i + 4 ≤ 16) × SmallList (i + 4) list }
-    ensures { result ≡ vector4 (float_at list i) (float_at list (i + 1)) (float_at list (i + 2)) (float_at list (i + 3)) }
+fn column4(grid: &Grid, i: usize) -> Vector4
+    requires { i + 4 ≤ 16 }
+    ensures { result ≡ vector4 (float_at grid.now.entries i) (float_at grid.now.entries (i + 1)) (float_at grid.now.entries (i + 2)) (float_at grid.now.entries (i + 3)) }
 {
     Vector4::new(
-        float_at(list, i),
-        float_at(list, i + 1),
-        float_at(list, i + 2),
-        float_at(list, i + 3),
+        float_at(grid, i),
+        float_at(grid, i + 1),
+        float_at(grid, i + 2),
+        float_at(grid, i + 3),
     )
 }
 
-// The matrix of order 2.
-fn matrix2(list: [i64; 16]) -> Matrix2
-    requires { SmallList 4 list }
-    ensures { AsFloats 2 list (floats2 result) }
+// The first numbers as a matrix of order 2.
+fn matrix2(grid: &Grid) -> Matrix2
+    ensures { AsFloats 2 grid.now.entries (floats2 result) }
 {
-    Matrix2::from_cols(column2(list, 0), column2(list, 2))
+    Matrix2::from_cols(column2(grid, 0), column2(grid, 2))
 }
 
-// The matrix of order 3.
-fn matrix3(list: [i64; 16]) -> Matrix3
-    requires { SmallList 9 list }
-    ensures { AsFloats 3 list (floats3 result) }
+// The first numbers as a matrix of order 3.
+fn matrix3(grid: &Grid) -> Matrix3
+    ensures { AsFloats 3 grid.now.entries (floats3 result) }
 {
-    Matrix3::from_cols(column3(list, 0), column3(list, 3), column3(list, 6))
+    Matrix3::from_cols(column3(grid, 0), column3(grid, 3), column3(grid, 6))
 }
 
-// The matrix of order 4.
-fn matrix4(list: [i64; 16]) -> Matrix4
-    requires { SmallList 16 list }
-    ensures { AsFloats 4 list (floats4 result) }
+// The numbers as a matrix of order 4.
+fn matrix4(grid: &Grid) -> Matrix4
+    ensures { AsFloats 4 grid.now.entries (floats4 result) }
 {
     Matrix4::from_cols(
-        column4(list, 0),
-        column4(list, 4),
-        column4(list, 8),
-        column4(list, 12),
+        column4(grid, 0),
+        column4(grid, 4),
+        column4(grid, 8),
+        column4(grid, 12),
     )
-}
-
-// How many of the first numbers come before the first that is of magnitude beyond 1024.
-pub(crate) fn small_ones(list: [i64; 16], count: usize) -> usize
-    requires { (count ≤ 16) × (length list ≡ 16) }
-    ensures { result ≡ passing small (take count list) }
-{
-    let mut i = 0;
-    while i < count {
-        let z = list[i];
-        if LARGEST < engine::magnitude(z) {
-            return i;
-        }
-        i += 1;
-    }
-    i
 }
 
 // The number that an answer gives, or 0.
@@ -108,34 +87,25 @@ fn number(answer: Result<i64, Refusal>) -> i64
     answer.unwrap_or(0)
 }
 
-// The entry at a column and a row.
-pub(crate) fn entry(list: [i64; 16], n: usize, c: usize, r: usize) -> i64
-    requires { Square n list × (c < n) × (r < n) }
-    ensures { result ≡ columns n list c r }
+// The signed sum of a matrix.
+pub(crate) fn signed_sum(grid: &Grid) -> i64
+    ensures { result ≡ exact_signed_sum (order_in grid.now) (matrix_in grid.now) }
 {
-    list[c * n + r]
-}
-
-// The signed sum of an order.
-pub(crate) fn signed_sum(list: [i64; 16], n: usize) -> i64
-    requires { Square n list }
-    ensures { result ≡ exact_signed_sum n (columns n list) }
-{
-    match n {
-        2 => number(engine::signed_sum(matrix2(list))),
-        3 => number(engine::signed_sum(matrix3(list))),
-        _ => number(engine::signed_sum(matrix4(list))),
+    match grid.order {
+        Order::Two => number(engine::signed_sum(matrix2(grid))),
+        Order::Three => number(engine::signed_sum(matrix3(grid))),
+        Order::Four => number(engine::signed_sum(matrix4(grid))),
     }
 }
 
-// The cofactor of a place of an order.
-pub(crate) fn cofactor(list: [i64; 16], n: usize, c: usize, r: usize) -> i64
-    requires { Square n list × (c < n) × (r < n) }
-    ensures { result ≡ cofactor_of n (columns n list) c r }
+// The cofactor of a place of a matrix.
+pub(crate) fn cofactor(grid: &Grid, c: usize, r: usize) -> i64
+    requires { (c < order_in grid.now) × (r < order_in grid.now) }
+    ensures { result ≡ cofactor_of (order_in grid.now) (matrix_in grid.now) c r }
 {
-    match n {
-        2 => number(engine::cofactor(matrix2(list), Column(c), Row(r))),
-        3 => number(engine::cofactor(matrix3(list), Column(c), Row(r))),
-        _ => number(engine::cofactor(matrix4(list), Column(c), Row(r))),
+    match grid.order {
+        Order::Two => number(engine::cofactor(matrix2(grid), Column(c), Row(r))),
+        Order::Three => number(engine::cofactor(matrix3(grid), Column(c), Row(r))),
+        Order::Four => number(engine::cofactor(matrix4(grid), Column(c), Row(r))),
     }
 }

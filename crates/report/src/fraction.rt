@@ -1,19 +1,19 @@
 // A fraction of two whole numbers: its sign, its lowest terms, and its text.
-ghost use Rattle.std.specs.Prelude.{◌≡◌, ◌≤◌, [], length, pos, ◌*ℤ◌, if◌then◌else◌, int_lt};
+ghost use Rattle.std.specs.Prelude.{◌≡◌, [], pos, ◌*ℤ◌, if◌then◌else◌, int_lt};
 ghost use Rattle.report.specs.Text.{text as text_text};
-ghost use Rattle.report.specs.Written.{Wrote};
+ghost use Rattle.report.specs.Written.{Adds};
 ghost use Rattle.report.specs.Report.{gcd as report_gcd, reduced as report_reduced, ratio_text, fraction as report_fraction};
 
-use crate::write;
+use crate::write::Page;
 
 // Two numbers as a fraction.
-#[derive(Clone, Copy)]
+#[derive(Clone, Copy, Debug, PartialEq, Eq)]
 pub(crate) struct Ratio {
     pub over: u64,
     pub under: u64,
 }
 
-// The greatest common divisor, by Euclid's steps.
+// The greatest common divisor, by Euclid's steps: no index is counted, so they are a `while`.
 fn gcd(a: u64, b: u64) -> u64
     ensures { result ≡ report_gcd a b }
 {
@@ -42,46 +42,29 @@ fn reduced(a: u64, b: u64) -> Ratio
 }
 
 // A fraction without its sign.
-fn unsigned(out: &mut [u8], at: usize, q: Ratio) -> usize
-    requires { at ≤ length out.old }
-    ensures { Wrote out.old at (ratio_text q) out.new result }
+fn unsigned(page: &mut Page, q: Ratio)
+    ensures { Adds page.old (ratio_text q) page.new }
 {
-    let next = write::decimal(out, at, q.over);
-    if q.under == 1 {
-        return next;
+    page.decimal(q.over);
+    if q.under != 1 {
+        page.text(b"/");
+        page.decimal(q.under);
     }
-    let next = write::text(out, next, b"/");
-    write::decimal(out, next, q.under)
 }
 
 // A minus sign where the fraction is below zero.
-fn minus(out: &mut [u8], at: usize, k: i64, s: i64) -> usize
-    requires { at ≤ length out.old }
-    ensures { Wrote out.old at (if int_lt (k *ℤ s) (pos 0) then text_text "-" else []) out.new result }
+fn minus(page: &mut Page, k: i64, s: i64)
+    ensures { Adds page.old (if int_lt (k *ℤ s) (pos 0) then text_text "-" else []) page.new }
 {
-    if k < 0 {
-        if 0 < s {
-            return write::text(out, at, b"-");
-        }
-        return at;
+    if k < 0 && 0 < s || 0 < k && s < 0 {
+        page.text(b"-");
     }
-    if 0 < k {
-        if s < 0 {
-            return write::text(out, at, b"-");
-        }
-    }
-    at
 }
 
 // The fraction k / s.
-pub(crate) fn fraction(out: &mut [u8], at: usize, k: i64, s: i64) -> usize
-    requires { at ≤ length out.old }
-    ensures { Wrote out.old at (report_fraction k s) out.new result }
+pub(crate) fn fraction(page: &mut Page, k: i64, s: i64)
+    ensures { Adds page.old (report_fraction k s) page.new }
 {
-    let next = minus(out, at, k, s);
-    unsigned(
-        out,
-        next,
-        reduced(engine::magnitude(k), engine::magnitude(s)),
-    )
+    minus(page, k, s);
+    unsigned(page, reduced(engine::magnitude(k), engine::magnitude(s)));
 }

@@ -1,165 +1,124 @@
 // The report of a matrix: its rows, its signed sum, and its inverse or refusal 2.
-ghost use Rattle.std.specs.Prelude.{◌<◌, ◌≤◌, true, false, ◌++◌, length};
+ghost use Rattle.std.specs.Prelude.{◌<◌, ◌++◌};
 ghost use Rattle.report.specs.Text.{text as text_text};
-ghost use Rattle.report.specs.Written.{Wrote};
-ghost use Rattle.report.specs.Entries.{columns, Square};
-ghost use Rattle.report.specs.Report.{cell as report_cell, row_of, rows_of, exactness as report_exactness, comes_back, refusal2 as report_refusal2, inverse_report, sum_report};
+ghost use Rattle.report.specs.Written.{Adds};
+ghost use Rattle.report.specs.Grid.{size, order_in, matrix_in};
+ghost use Rattle.report.specs.Report.{row_of, rows_of, exactness as report_exactness, comes_back, refusal2 as report_refusal2, inverse_report, matrix_report};
+ghost use Rattle.report.specs.Shown.{shown_cell, shown_row, shown_rows};
 ghost use Rattle.report.specs.Verdict.{sum_line};
 
-use crate::{ask, fraction, write};
+use crate::grid::{Grid, Order};
+use crate::write::Page;
+use crate::{ask, fraction};
 
-// An entry of the matrix, or of its inverse, after a space.
-fn cell(
-    out: &mut [u8],
-    at: usize,
-    list: [i64; 16],
-    n: usize,
-    sum: i64,
-    inverse: bool,
-    c: usize,
-    r: usize,
-) -> usize
-    requires { (at ≤ length out.old) × Square n list × (c < n) × (r < n) }
-    ensures { Wrote out.old at (text_text " " ++ report_cell inverse n (columns n list) sum c r) out.new result }
+// What the cells show: the matrix, or its inverse, whose entries are cofactors over this signed sum.
+#[derive(Clone, Copy, Debug, PartialEq, Eq)]
+enum Shown {
+    Matrix,
+    Inverse(i64),
+}
+
+// A cell, after a space.
+fn cell(page: &mut Page, grid: &Grid, shown: Shown, c: usize, r: usize)
+    requires { (c < order_in grid.now) × (r < order_in grid.now) }
+    ensures { Adds page.old (text_text " " ++ shown_cell shown grid.now c r) page.new }
 {
-    let next = write::text(out, at, b" ");
-    if inverse {
-        return fraction::fraction(out, next, ask::cofactor(list, n, r, c), sum);
+    page.text(b" ");
+    match shown {
+        Shown::Matrix => page.whole(grid.entry(c, r)),
+        Shown::Inverse(sum) => fraction::fraction(page, ask::cofactor(grid, r, c), sum),
     }
-    write::whole(out, next, ask::entry(list, n, c, r))
 }
 
 // A row.
-fn row(
-    out: &mut [u8],
-    at: usize,
-    list: [i64; 16],
-    n: usize,
-    sum: i64,
-    inverse: bool,
-    r: usize,
-) -> usize
-    requires { (at ≤ length out.old) × Square n list × (r < n) }
-    ensures { Wrote out.old at (row_of inverse n (columns n list) sum r) out.new result }
+fn row(page: &mut Page, grid: &Grid, shown: Shown, r: usize)
+    requires { r < order_in grid.now }
+    ensures { Adds page.old (shown_row shown grid.now r) page.new }
 {
-    let mut next = at;
-    let mut c = 0;
-    while c < n {
-        next = cell(out, next, list, n, sum, inverse, c, r);
-        c += 1;
+    for c in 0..grid.order.size() {
+        cell(page, grid, shown, c, r);
     }
-    write::text(out, next, b"\n")
+    page.text(b"\n");
 }
 
 // Every row.
-fn rows(out: &mut [u8], at: usize, list: [i64; 16], n: usize, sum: i64, inverse: bool) -> usize
-    requires { (at ≤ length out.old) × Square n list }
-    ensures { Wrote out.old at (rows_of inverse n (columns n list) sum) out.new result }
+fn rows(page: &mut Page, grid: &Grid, shown: Shown)
+    ensures { Adds page.old (shown_rows shown grid.now) page.new }
 {
-    let mut next = at;
-    let mut r = 0;
-    while r < n {
-        next = row(out, next, list, n, sum, inverse, r);
-        r += 1;
+    for r in 0..grid.order.size() {
+        row(page, grid, shown, r);
     }
-    next
 }
 
-// Whether the inverse is exact.
-fn exactness(out: &mut [u8], at: usize, exact: bool) -> usize
-    requires { at ≤ length out.old }
-    ensures { Wrote out.old at (report_exactness exact) out.new result }
+// Whether the inverse is exact: the answer is what is told, and no step to run.
+fn exactness(page: &mut Page, exact: bool)
+    ensures { Adds page.old (report_exactness exact) page.new }
 {
     if exact {
-        return write::text(
-            out,
-            at,
-            b"the inverse is exact, since the sum is plus or minus a power of two:\n",
+        page.text(b"the inverse is exact, since the sum is plus or minus a power of two:\n");
+    } else {
+        page.text(
+            b"the inverse is not exact, since the sum is not plus or minus a power of two; as fractions:\n",
         );
     }
-    write::text(
-        out,
-        at,
-        b"the inverse is not exact, since the sum is not plus or minus a power of two; as fractions:\n",
-    )
 }
 
-// Whether what the matrix moves comes back.
-fn comes_back(out: &mut [u8], at: usize, n: usize, exact: bool) -> usize
-    requires { at ≤ length out.old }
-    ensures { Wrote out.old at (comes_back n exact) out.new result }
+// Whether what a matrix of the order moves comes back.
+fn comes_back(page: &mut Page, order: Order, exact: bool)
+    ensures { Adds page.old (comes_back (size order) exact) page.new }
 {
     if !exact {
-        return write::text(
-            out,
-            at,
-            b"what it moves need not come back exactly, since the inverse is rounded\n",
+        page.text(b"what it moves need not come back exactly, since the inverse is rounded\n");
+    } else if order == Order::Four {
+        page.text(b"what it moves comes back exactly: every whole vector with entries up to 64\n");
+    } else {
+        page.text(
+            b"what it moves comes back exactly: every whole vector with entries up to 32768\n",
         );
     }
-    if n == 4 {
-        return write::text(
-            out,
-            at,
-            b"what it moves comes back exactly: every whole vector with entries up to 64\n",
-        );
-    }
-    write::text(
-        out,
-        at,
-        b"what it moves comes back exactly: every whole vector with entries up to 32768\n",
-    )
 }
 
-// The inverse, and whether what the matrix moves comes back.
-fn inverse(out: &mut [u8], at: usize, list: [i64; 16], n: usize, sum: i64) -> usize
-    requires { (at ≤ length out.old) × Square n list }
-    ensures { Wrote out.old at (inverse_report n (columns n list) sum) out.new result }
+// The inverse over this sum, and whether what the matrix moves comes back.
+fn inverse(page: &mut Page, grid: &Grid, sum: i64)
+    ensures { Adds page.old (inverse_report (order_in grid.now) (matrix_in grid.now) sum) page.new }
 {
     let exact = engine::one_bit(engine::magnitude(sum));
-    let next = exactness(out, at, exact);
-    let next = rows(out, next, list, n, sum, true);
-    comes_back(out, next, n, exact)
+    exactness(page, exact);
+    rows(page, grid, Shown::Inverse(sum));
+    comes_back(page, grid.order, exact);
 }
 
 // Refusal 2.
-fn refusal2(out: &mut [u8], at: usize) -> usize
-    requires { at ≤ length out.old }
-    ensures { Wrote out.old at report_refusal2 out.new result }
+fn refusal2(page: &mut Page)
+    ensures { Adds page.old report_refusal2 page.new }
 {
-    write::text(
-        out,
-        at,
-        b"refusal 2: the signed sum is zero, so there is no inverse\n",
-    )
+    page.text(b"refusal 2: the signed sum is zero, so there is no inverse\n");
 }
 
 // The verdict on a matrix with this sum: refusal 2, or whether what it moves comes back.
-pub(crate) fn sum_line(out: &mut [u8], at: usize, n: usize, sum: i64) -> usize
-    requires { at ≤ length out.old }
-    ensures { Wrote out.old at (sum_line n sum) out.new result }
+pub(crate) fn sum_line(page: &mut Page, order: Order, sum: i64)
+    ensures { Adds page.old (sum_line (size order) sum) page.new }
 {
     if sum == 0 {
-        return refusal2(out, at);
+        refusal2(page);
+    } else {
+        comes_back(page, order, engine::one_bit(engine::magnitude(sum)));
     }
-    comes_back(out, at, n, engine::one_bit(engine::magnitude(sum)))
 }
 
 // The matrix and its signed sum, then refusal 2 or the inverse.
-pub(crate) fn matrix(out: &mut [u8], at: usize, list: [i64; 16], n: usize, sum: i64) -> usize
-    requires { (at ≤ length out.old) × Square n list }
-    ensures { Wrote out.old at (sum_report n (columns n list) sum) out.new result }
+pub(crate) fn matrix(page: &mut Page, grid: &Grid)
+    ensures { Adds page.old (matrix_report (order_in grid.now) (matrix_in grid.now)) page.new }
 {
-    let next = write::text(
-        out,
-        at,
-        b"the matrix, from entries given column by column:\n",
-    );
-    let next = rows(out, next, list, n, sum, false);
-    let next = write::text(out, next, b"its signed sum: ");
-    let next = write::whole(out, next, sum);
-    let next = write::text(out, next, b"\n");
+    let sum = ask::signed_sum(grid);
+    page.text(b"the matrix, from entries given column by column:\n");
+    rows(page, grid, Shown::Matrix);
+    page.text(b"its signed sum: ");
+    page.whole(sum);
+    page.text(b"\n");
     if sum == 0 {
-        return refusal2(out, next);
+        refusal2(page);
+    } else {
+        inverse(page, grid, sum);
     }
-    inverse(out, next, list, n, sum)
 }

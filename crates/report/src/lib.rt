@@ -4,6 +4,7 @@
 
 mod ask;
 mod fraction;
+mod grid;
 mod help;
 mod layout;
 mod line;
@@ -12,74 +13,80 @@ mod totals;
 mod words;
 mod write;
 
-ghost use Rattle.std.specs.Prelude.{◌≡◌, ◌<◌, ◌≤◌, min, length, take, if◌then◌else◌};
-ghost use Rattle.report.specs.Written.{Wrote};
-ghost use Rattle.report.specs.Line.{meant, line_of, Holds};
+ghost use Rattle.std.specs.Prelude.{◌≡◌, ◌<◌, ◌≤◌, min, length, take, Err};
+ghost use Rattle.report.specs.Written.{Adds};
+ghost use Rattle.report.specs.Grid.{size};
+ghost use Rattle.report.specs.Line.{meant, line_of};
 ghost use Rattle.report.specs.Report.{refusal6, order_expected, entries_expected, told, report_of, at_start};
 ghost use Rattle.report.specs.Verdict.{sum_verdict, verdict_in, verdict_text, totals_text};
 
-use line::{Found, Reading};
+use grid::Order;
+use line::Fault;
 pub use totals::{Totals, Verdict};
 pub use words::add_word;
+use write::Page;
 
 // What was expected after the order.
-fn entries_expected(out: &mut [u8], n: usize) -> usize
-    requires { n ≤ 4 }
-    ensures { Wrote out.old 0 (entries_expected n) out.new result }
+fn entries_expected(page: &mut Page, order: Order)
+    ensures { Adds page.old (entries_expected (size order)) page.new }
 {
-    let next = write::text(out, 0, b"expected ");
-    let next = write::decimal(out, next, (n * n) as u64);
-    write::text(
-        out,
-        next,
-        b" whole numbers after the order, column by column\n",
-    )
+    let n = order.size();
+    page.text(b"expected ");
+    page.decimal((n * n) as u64);
+    page.text(b" whole numbers after the order, column by column\n");
 }
 
 // What was expected in front.
-fn order_expected(out: &mut [u8]) -> usize
-    ensures { Wrote out.old 0 order_expected out.new result }
+fn order_expected(page: &mut Page)
+    ensures { Adds page.old order_expected page.new }
 {
-    write::text(
-        out,
-        0,
-        b"expected an order first, 2, 3 or 4, then the entries column by column\n",
-    )
+    page.text(b"expected an order first, 2, 3 or 4, then the entries column by column\n");
 }
 
 // Refusal 6, of the entry at a place of the list.
-fn not_whole(out: &mut [u8], n: usize, place: usize) -> usize
-    requires { 0 < n }
-    ensures { Wrote out.old 0 (refusal6 n place) out.new result }
+fn not_whole(page: &mut Page, order: Order, place: usize)
+    ensures { Adds page.old (refusal6 (size order) place) page.new }
 {
-    let next = write::text(out, 0, b"refusal 6: the entry at column ");
-    let next = write::decimal(out, next, (place / n) as u64);
-    let next = write::text(out, next, b", row ");
-    let next = write::decimal(out, next, (place % n) as u64);
-    write::text(
-        out,
-        next,
-        b" (both counted from 0) is not a whole number of magnitude at most 1024\n",
-    )
+    let n = order.size();
+    page.text(b"refusal 6: the entry at column ");
+    page.decimal((place / n) as u64);
+    page.text(b", row ");
+    page.decimal((place % n) as u64);
+    page.text(b" (both counted from 0) is not a whole number of magnitude at most 1024\n");
 }
 
-// What a line holds, told in full or as a verdict, from the start of the output on.
-fn tell(out: &mut [u8], r: Reading, brief: bool) -> usize
-    requires { Holds r }
-    ensures { Wrote out.old 0 (if brief then verdict_text (meant r) else told (meant r)) out.new result }
+// What is wrong with a line: it is told in full by a verdict too.
+fn tell_fault(page: &mut Page, fault: Fault)
+    ensures { Adds page.old (verdict_text (meant (Err fault))) page.new }
 {
-    let found = r.found;
-    match found {
-        Found::NoOrder => order_expected(out),
-        Found::OtherCount => entries_expected(out, r.order),
-        Found::NotWhole => not_whole(out, r.order, r.place),
-        Found::Matrix => {
-            if brief {
-                return layout::sum_line(out, 0, r.order, r.sum);
-            }
-            let list = r.list;
-            layout::matrix(out, 0, list, r.order, r.sum)
-        }
+    match fault {
+        Fault::NoOrder => order_expected(page),
+        Fault::OtherCount(order) => entries_expected(page, order),
+        Fault::NotWhole(order, place) => not_whole(page, order, place),
+    }
+}
+
+// The report of a line, or how to use the tool.
+fn words_report(page: &mut Page, line: &[u8])
+    ensures { Adds page.old (report_of line.now) page.new }
+{
+    if help::asked(line) {
+        help::help(page);
+        return;
+    }
+    match line::read_line(line) {
+        Ok(grid) => layout::matrix(page, &grid),
+        Err(fault) => tell_fault(page, fault),
+    }
+}
+
+// The verdict on a line.
+fn verdict_report(page: &mut Page, line: &[u8])
+    ensures { Adds page.old (verdict_text (line_of line.now)) page.new }
+{
+    match line::read_line(line) {
+        Ok(grid) => layout::sum_line(page, grid.order, ask::signed_sum(&grid)),
+        Err(fault) => tell_fault(page, fault),
     }
 }
 
@@ -97,28 +104,15 @@ fn sum_verdict(sum: i64) -> Verdict
     Verdict::Rounded
 }
 
-// The kind of verdict on what a line holds.
-fn verdict_in(r: Reading) -> Verdict
-    requires { Holds r }
-    ensures { result ≡ verdict_in (meant r) }
+// The kind of verdict on what is wrong with a line.
+fn fault_verdict(fault: Fault) -> Verdict
+    ensures { result ≡ verdict_in (meant (Err fault)) }
 {
-    let found = r.found;
-    match found {
-        Found::NoOrder => Verdict::NotRead,
-        Found::OtherCount => Verdict::NotRead,
-        Found::NotWhole => Verdict::NotWhole,
-        Found::Matrix => sum_verdict(r.sum),
+    match fault {
+        Fault::NoOrder => Verdict::NotRead,
+        Fault::OtherCount(_) => Verdict::NotRead,
+        Fault::NotWhole(..) => Verdict::NotWhole,
     }
-}
-
-// The report of the words, or how to use the tool, from the start of the output on.
-fn words_report(line: &[u8], out: &mut [u8]) -> usize
-    ensures { Wrote out.old 0 (report_of line.now) out.new result }
-{
-    if help::asked(line) {
-        return help::help(out);
-    }
-    tell(out, line::read_line(line), false)
 }
 
 // The report of a line, an order and then entries column by column, as much of it as the output has room for; where --help is among its words, how to use the tool.
@@ -128,14 +122,19 @@ pub fn report(line: &[u8], out: &mut [u8]) -> usize
     ensures within { (result ≤ length out.new) × (result ≡ length (take result out.new)) }
     ensures writes { out.new ≡ at_start out.old (report_of line.now) }
 {
-    words_report(line, out)
+    let mut page = Page::new(out);
+    words_report(&mut page, line);
+    page.at
 }
 
 // The kind of verdict on a line.
 pub fn verdict_of(line: &[u8]) -> Verdict
     ensures { result ≡ verdict_in (line_of line.now) }
 {
-    verdict_in(line::read_line(line))
+    match line::read_line(line) {
+        Ok(grid) => sum_verdict(ask::signed_sum(&grid)),
+        Err(fault) => fault_verdict(fault),
+    }
 }
 
 // The verdict on a line in one line, which is the last of its report; as much of it as the output has room for, as `report` writes.
@@ -144,7 +143,9 @@ pub fn verdict_line(line: &[u8], out: &mut [u8]) -> usize
     ensures within { (result ≤ length out.new) × (result ≡ length (take result out.new)) }
     ensures writes { out.new ≡ at_start out.old (verdict_text (line_of line.now)) }
 {
-    tell(out, line::read_line(line), true)
+    let mut page = Page::new(out);
+    verdict_report(&mut page, line);
+    page.at
 }
 
 // The totals in one line; as much of it as the output has room for, as `report` writes.
@@ -153,5 +154,7 @@ pub fn totals_line(totals: Totals, out: &mut [u8]) -> usize
     ensures within { (result ≤ length out.new) × (result ≡ length (take result out.new)) }
     ensures writes { out.new ≡ at_start out.old (totals_text totals) }
 {
-    totals::line(out, totals)
+    let mut page = Page::new(out);
+    totals::line(&mut page, totals);
+    page.at
 }

@@ -1,70 +1,50 @@
 // What a line holds: an order and the entries of a matrix, or what is wrong with it.
-ghost use Rattle.report.specs.Line.{Reads};
+ghost use Rattle.std.specs.Prelude.{◌≡◌, ◌*◌, length};
+ghost use Rattle.report.specs.Words.{words};
+ghost use Rattle.report.specs.Grid.{size};
+ghost use Rattle.report.specs.Line.{entries_in, line_of, meant};
 
-use crate::{ask, read};
+use crate::grid::{Grid, Order};
+use crate::read;
+use crate::read::Words;
 
-// No order, another number of words, a word that is no whole number of magnitude at most 1024, or a matrix.
-#[derive(Clone, Copy)]
-pub(crate) enum Found {
+// What is wrong with a line: no order, an order with another number of words behind it, or with a word at a place that is no whole number of magnitude at most 1024.
+#[derive(Clone, Copy, Debug, PartialEq, Eq)]
+pub(crate) enum Fault {
     NoOrder,
-    OtherCount,
-    NotWhole,
-    Matrix,
+    OtherCount(Order),
+    NotWhole(Order, usize),
 }
 
-// What was found; the order; the place of the first word that does not fit; the entries column by column and their signed sum.
-#[derive(Clone, Copy)]
-pub(crate) struct Reading {
-    pub found: Found,
-    pub order: usize,
-    pub place: usize,
-    pub sum: i64,
-    pub list: [i64; 16],
+// The matrix of the order, from as many words as it has entries. The arms are written out, since `ok_or` and `?` hide from the proof which word was met.
+fn entries(order: Order, left: Words) -> Result<Grid, Fault>
+    requires { length (words left.line.now) ≡ size order * size order }
+    ensures { meant result ≡ entries_in (size order) (words left.entry.line.now) }
+{
+    let mut entries = [0i64; 16];
+    for (place, word) in left.enumerate() {
+        match read::entry(word) {
+            Some(z) => entries[place] = z,
+            None => return Err(Fault::NotWhole(order, place)),
+        }
+    }
+    Ok(Grid { order, entries })
 }
 
 // What a line holds.
-pub(crate) fn read_line(line: &[u8]) -> Reading
-    ensures { Reads line.now result }
+pub(crate) fn read_line(line: &[u8]) -> Result<Grid, Fault>
+    ensures { meant result ≡ line_of line.now }
 {
-    let start = read::blanks(line);
-    let rest = &line[start..];
-    let end = read::part_length(rest);
-    let order = read::order_of(&rest[..end]);
-    if order == 0 {
-        return Reading {
-            found: Found::NoOrder,
-            order: 0,
-            place: 0,
-            sum: 0,
-            list: [0; 16],
-        };
+    let mut words = Words::of(line);
+    let Some(first) = words.next() else {
+        return Err(Fault::NoOrder);
+    };
+    let Some(order) = Order::of(first) else {
+        return Err(Fault::NoOrder);
+    };
+    let n = order.size();
+    if words.total() != n * n {
+        return Err(Fault::OtherCount(order));
     }
-    let entries = read::numbers(line, start + end + 1, order * order);
-    let list = entries.list;
-    if !entries.good {
-        return Reading {
-            found: Found::OtherCount,
-            order,
-            place: 0,
-            sum: 0,
-            list,
-        };
-    }
-    let place = ask::small_ones(list, order * order);
-    if place != order * order {
-        return Reading {
-            found: Found::NotWhole,
-            order,
-            place,
-            sum: 0,
-            list,
-        };
-    }
-    Reading {
-        found: Found::Matrix,
-        order,
-        place,
-        sum: ask::signed_sum(list, order),
-        list,
-    }
+    entries(order, words)
 }

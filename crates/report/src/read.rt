@@ -1,146 +1,95 @@
-// Words of a line, read one after the other: the order, and whole numbers up to 1024. Any other word is held as 1025.
-ghost use Rattle.std.specs.Prelude.{◌≡◌, ◌+◌, ◌-◌, ◌*◌, ◌<◌, ◌≤◌, min, length, drop};
-ghost use Rattle.report.specs.Words.{all, is_blank, order_of, negative as words_negative, digits_of, is_digit, is_number, value};
-ghost use Rattle.report.specs.Read.{held, Skipped, FirstPart, NextPart, Numbers as ReadNumbers};
+// The words of a line, one after another, and the whole number of magnitude at most 1024 that a word is.
+ghost use Rattle.std.specs.Prelude.{◌≡◌, ◌+◌, ◌-◌, ◌*◌, ◌≤◌, ◌&&◌, min, nat_le, length};
+ghost use Rattle.std.specs.List.{list_all, take_while};
+ghost use Rattle.std.specs.Iterator.{YieldsFirstRef, item_count};
+ghost use Rattle.report.specs.Words.{is_blank, negative as words_negative, digits_of, is_digit, is_number, value, words};
+ghost use Rattle.report.specs.Read.{is_other, Fitting};
 
-// A part of a line: whether it is a word, the number that the word is held as, and where the next part starts.
+// The largest magnitude that the engine takes.
+const LARGEST: u64 = 1024;
+
+// The words of what is left of a line.
 #[derive(Clone, Copy)]
-pub(crate) struct Part {
-    pub word: bool,
-    pub number: i64,
-    pub next: usize,
+pub(crate) struct Words<'a> {
+    pub line: &'a [u8],
 }
 
-// The numbers of the words that were read, and whether they are as many as expected.
-#[derive(Clone, Copy)]
-pub(crate) struct Entries {
-    pub good: bool,
-    pub list: [i64; 16],
+impl<'a> Words<'a> {
+    // The words of a line.
+    pub(crate) fn of(line: &'a [u8]) -> Words<'a>
+        ensures { result.line.now ≡ line.now }
+    {
+        Words { line }
+    }
+
+    // How many there are.
+    #[tactic(auto, using(crate::proofs::Reading::words_few))]
+    pub(crate) fn total(self) -> usize
+        ensures { result ≡ length (words self.entry.line.now) }
+    {
+        self.count()
+    }
+}
+
+impl<'a> Iterator for Words<'a> {
+    type Item = &'a [u8];
+
+    ghost next_gives = { YieldsFirstRef (λ s. words s.line.now) };
+
+    ghost remaining = { item_count (λ s. words s.line.now) };
+
+    fn next(&mut self) -> Option<&'a [u8]> {
+        let line = self.line;
+        let from_word = &line[blanks(line)..];
+        let (word, rest) = from_word.split_at(others(from_word));
+        self.line = rest;
+        if word.is_empty() { None } else { Some(word) }
+    }
 }
 
 // Whether a byte is a blank.
+#[tactic(auto, unfolding(crate::specs::Words::is_blank))]
 fn is_blank(byte: u8) -> bool
     ensures { result ≡ is_blank byte }
 {
-    if byte == b' ' {
-        return true;
-    }
-    if byte == b'\t' {
-        return true;
-    }
-    byte == b'\r'
+    byte == b' ' || byte == b'\t' || byte == b'\r'
 }
 
 // How many blanks stand at the start of a line.
-pub(crate) fn blanks(s: &[u8]) -> usize
-    ensures { Skipped s.now result }
+fn blanks(s: &[u8]) -> usize
+    ensures is { result ≡ length (take_while is_blank s.now) }
+    ensures within { result ≤ length s.now }
 {
-    let mut i = 0;
-    while i < s.len() {
-        if !is_blank(s[i]) {
-            return i;
-        }
-        i += 1;
-    }
-    i
+    s.iter().take_while(|byte| is_blank(**byte)).count()
 }
 
-// How long the first part of a line is.
-pub(crate) fn part_length(s: &[u8]) -> usize
-    ensures { FirstPart s.now result }
+// How many other bytes stand there.
+fn others(s: &[u8]) -> usize
+    ensures is { result ≡ length (take_while is_other s.now) }
+    ensures within { result ≤ length s.now }
 {
-    let mut i = 0;
-    while i < s.len() {
-        if is_blank(s[i]) {
-            return i;
-        }
-        i += 1;
-    }
-    i
-}
-
-// The order that a word is, or 0.
-pub(crate) fn order_of(word: &[u8]) -> usize
-    ensures { result ≡ order_of word.now }
-{
-    if word.len() == 1 {
-        let digit = word[0];
-        if digit < b'2' {
-            return 0;
-        }
-        if b'4' < digit {
-            return 0;
-        }
-        return (digit - b'0') as usize;
-    }
-    0
+    s.iter().take_while(|byte| !is_blank(**byte)).count()
 }
 
 // Whether a word has a minus sign.
 fn negative(word: &[u8]) -> bool
     ensures { result ≡ words_negative word.now }
 {
-    if word.len() == 0 {
-        return false;
-    }
-    word[0] == b'-'
+    word.starts_with(b"-")
 }
 
-// Where the digits of a word start.
-fn digits_start(word: &[u8]) -> usize
-    ensures { (result ≤ length word.now) × (drop result word.now ≡ digits_of word.now) }
+// A word without its minus sign.
+fn digits(word: &[u8]) -> &[u8]
+    ensures { result.now ≡ digits_of word.now }
 {
-    if negative(word) {
-        return 1;
-    }
-    0
+    word.strip_prefix(b"-").unwrap_or(word)
 }
 
-// Whether a byte is a digit.
-fn is_digit(byte: u8) -> bool
-    ensures { result ≡ is_digit byte }
+// Whether every byte is a digit.
+fn all_digits(bytes: &[u8]) -> bool
+    ensures { result ≡ list_all is_digit bytes.now }
 {
-    if byte < b'0' {
-        return false;
-    }
-    byte <= b'9'
-}
-
-// Whether every byte from a place on is a digit.
-fn all_digits(word: &[u8], from: usize) -> bool
-    requires { from ≤ length word.now }
-    ensures { result ≡ all is_digit (drop from word.now) }
-{
-    let mut i = from;
-    while i < word.len() {
-        if is_digit(word[i]) {
-            i += 1;
-        } else {
-            return false;
-        }
-    }
-    true
-}
-
-// Whether a word is a whole number.
-fn is_number(word: &[u8]) -> bool
-    ensures { result ≡ is_number word.now }
-{
-    let from = digits_start(word);
-    if from < word.len() {
-        return all_digits(word, from);
-    }
-    false
-}
-
-// The number of a digit.
-fn digit_value(byte: u8) -> u64
-    ensures { (result ≡ byte - 48) × (result < 256) }
-{
-    if byte < b'0' {
-        return 0;
-    }
-    (byte - b'0') as u64
+    bytes.iter().all(|byte| byte.is_ascii_digit())
 }
 
 // A number with one digit more, at most 1025.
@@ -148,75 +97,32 @@ fn continued(n: u64, byte: u8) -> u64
     requires { n ≤ 1025 }
     ensures { result ≡ min 1025 (n * 10 + (byte - 48)) }
 {
-    let more = n * 10 + digit_value(byte);
-    if 1024 < more { 1025 } else { more }
+    (n * 10 + byte.saturating_sub(b'0') as u64).min(LARGEST + 1)
 }
 
-// The number of the digits from a place on, at most 1025.
-fn capped(word: &[u8], from: usize) -> u64
-    requires { from ≤ length word.now }
-    ensures { result ≡ min 1025 (value 0 (drop from word.now)) }
+// The number of some digits, at most 1025.
+fn capped(digits: &[u8]) -> u64
+    ensures { result ≡ min 1025 (value 0 digits.now) }
 {
-    let mut n: u64 = 0;
-    let mut i = from;
-    while i < word.len() {
-        n = continued(n, word[i]);
-        i += 1;
+    let mut n = 0;
+    for byte in digits {
+        n = continued(n, *byte);
     }
     n
 }
 
-// The number that a word is held as, of magnitude at most 1025.
-fn number_of(word: &[u8]) -> i64
-    ensures { result ≡ held word.now }
+// The whole number of magnitude at most 1024 that a word is.
+pub(crate) fn entry(word: &[u8]) -> Option<i64>
+    ensures { Fitting word.now result }
 {
-    if !is_number(word) {
-        return 1025;
+    let digits = digits(word);
+    if digits.is_empty() || !all_digits(digits) {
+        return None;
     }
-    let magnitude = capped(word, digits_start(word)) as i64;
-    if negative(word) {
-        return 0 - magnitude;
+    let magnitude = capped(digits);
+    if LARGEST < magnitude {
+        return None;
     }
-    magnitude
-}
-
-// The part at a place.
-fn part_at(s: &[u8], at: usize) -> Part
-    requires { at ≤ length s.now }
-    ensures { NextPart s.now at result.word result.number result.next }
-{
-    let rest = &s[at..];
-    let end = part_length(rest);
-    let part = &rest[..end];
-    Part {
-        word: 1 <= end,
-        number: number_of(part),
-        next: at + end + 1,
-    }
-}
-
-// The numbers of the words from a place on, as many as expected.
-pub(crate) fn numbers(s: &[u8], from: usize, count: usize) -> Entries
-    requires { count ≤ 16 }
-    ensures { ReadNumbers s.now from count result.good result.list }
-{
-    let mut list: [i64; 16] = [0; 16];
-    let mut at = from;
-    let mut i: usize = 0;
-    while at <= s.len() {
-        let part = part_at(s, at);
-        if part.word {
-            if i == count {
-                return Entries { good: false, list };
-            }
-            let number = part.number;
-            list[i] = number;
-            i += 1;
-        }
-        at = part.next;
-    }
-    Entries {
-        good: i == count,
-        list,
-    }
+    let z = magnitude as i64;
+    Some(if negative(word) { -z } else { z })
 }

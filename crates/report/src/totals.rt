@@ -1,13 +1,13 @@
 // The kinds of verdict, and how many lines had each.
-ghost use Rattle.std.specs.Prelude.{◌≡◌, ◌≤◌, ◌++◌, length};
+ghost use Rattle.std.specs.Prelude.{◌≡◌, ◌++◌};
 ghost use Rattle.report.specs.Text.{decimal};
-ghost use Rattle.report.specs.Written.{Wrote};
+ghost use Rattle.report.specs.Written.{Adds};
 ghost use Rattle.report.specs.Verdict.{more as verdict_more, none as verdict_none, counted as verdict_counted, sums_text, totals_text};
 
-use crate::write;
+use crate::write::Page;
 
 // What is said of a line: what the matrix moves comes back exactly, it need not, refusal 2, refusal 6, or the line is no matrix.
-#[derive(Clone, Copy)]
+#[derive(Clone, Copy, Debug, PartialEq, Eq)]
 pub enum Verdict {
     ComesBack,
     Rounded,
@@ -17,7 +17,7 @@ pub enum Verdict {
 }
 
 // How many lines there were, and how many of each kind.
-#[derive(Clone, Copy)]
+#[derive(Clone, Copy, Debug, PartialEq, Eq)]
 pub struct Totals {
     pub lines: u64,
     pub back: u64,
@@ -31,23 +31,19 @@ pub struct Totals {
 fn more(n: u64) -> u64
     ensures { result ≡ verdict_more n }
 {
-    if n == 18_446_744_073_709_551_615 {
-        return n;
-    }
-    n + 1
+    n.saturating_add(1)
 }
 
 // A number and a text before it.
-fn labelled(out: &mut [u8], at: usize, label: &[u8], n: u64) -> usize
-    requires { at ≤ length out.old }
-    ensures { Wrote out.old at (label.now ++ decimal n) out.new result }
+fn labelled(page: &mut Page, label: &[u8], n: u64)
+    ensures { Adds page.old (label.now ++ decimal n) page.new }
 {
-    let next = write::text(out, at, label);
-    write::decimal(out, next, n)
+    page.text(label);
+    page.decimal(n);
 }
 
 impl Totals {
-    // No line so far.
+    // No line so far. The numbers are written out, as the promise names them: a Default would be a second way to the same value.
     pub fn none() -> Totals
         ensures { result ≡ verdict_none }
     {
@@ -65,56 +61,35 @@ impl Totals {
     pub fn counted(self, verdict: Verdict) -> Totals
         ensures { result ≡ verdict_counted self verdict }
     {
-        let lines = more(self.lines);
-        let mut back = self.back;
-        let mut rounded = self.rounded;
-        let mut singular = self.singular;
-        let mut outside = self.outside;
-        let mut unread = self.unread;
+        let mut totals = self;
+        totals.lines = more(totals.lines);
         match verdict {
-            Verdict::ComesBack => {
-                back = more(back);
-            }
-            Verdict::Rounded => {
-                rounded = more(rounded);
-            }
-            Verdict::Singular => {
-                singular = more(singular);
-            }
-            Verdict::NotWhole => {
-                outside = more(outside);
-            }
-            Verdict::NotRead => {
-                unread = more(unread);
-            }
+            Verdict::ComesBack => totals.back = more(totals.back),
+            Verdict::Rounded => totals.rounded = more(totals.rounded),
+            Verdict::Singular => totals.singular = more(totals.singular),
+            Verdict::NotWhole => totals.outside = more(totals.outside),
+            Verdict::NotRead => totals.unread = more(totals.unread),
         }
-        Totals {
-            lines,
-            back,
-            rounded,
-            singular,
-            outside,
-            unread,
-        }
+        totals
     }
 }
 
 // The lines, those that come back, and those that need not.
-fn sums(out: &mut [u8], totals: Totals) -> usize
-    ensures { Wrote out.old 0 (sums_text totals) out.new result }
+fn sums(page: &mut Page, totals: Totals)
+    ensures { Adds page.old (sums_text totals) page.new }
 {
-    let next = labelled(out, 0, b"lines: ", totals.lines);
-    let next = labelled(out, next, b"; come back exactly: ", totals.back);
-    labelled(out, next, b"; need not: ", totals.rounded)
+    labelled(page, b"lines: ", totals.lines);
+    labelled(page, b"; come back exactly: ", totals.back);
+    labelled(page, b"; need not: ", totals.rounded);
 }
 
 // The totals as a line.
-pub(crate) fn line(out: &mut [u8], totals: Totals) -> usize
-    ensures { Wrote out.old 0 (totals_text totals) out.new result }
+pub(crate) fn line(page: &mut Page, totals: Totals)
+    ensures { Adds page.old (totals_text totals) page.new }
 {
-    let next = sums(out, totals);
-    let next = labelled(out, next, b"; refusal 2: ", totals.singular);
-    let next = labelled(out, next, b"; refusal 6: ", totals.outside);
-    let next = labelled(out, next, b"; not read: ", totals.unread);
-    write::text(out, next, b"\n")
+    sums(page, totals);
+    labelled(page, b"; refusal 2: ", totals.singular);
+    labelled(page, b"; refusal 6: ", totals.outside);
+    labelled(page, b"; not read: ", totals.unread);
+    page.text(b"\n");
 }

@@ -2,7 +2,7 @@
 ghost use Rattle.std.specs.Prelude.{◌≡◌, ◌+◌, ◌≤◌, min, [], ◌∷◌, ◌++◌, length, take};
 ghost use Rattle.std.proofs.lemmas.List.Edits.{sets};
 
-use crate::write;
+use crate::write::Page;
 
 // A word and a blank after it, from a place of the line on. The answer is the next place, or the line's length where there was not room for both.
 pub fn add_word(line: &mut [u8], at: usize, word: &[u8]) -> usize
@@ -13,6 +13,8 @@ pub fn add_word(line: &mut [u8], at: usize, word: &[u8]) -> usize
     if line.len() < at {
         return line.len();
     }
-    let next = write::text(line, at, word);
-    write::text(line, next, b" ")
+    let mut page = Page { out: line, at };
+    page.text(word);
+    page.text(b" ");
+    page.at
 }

@@ -1,69 +1,77 @@
-// Bytes, texts and whole numbers, written to a lent slice from a place on; what finds no room is left out.
-ghost use Rattle.std.specs.Prelude.{◌/◌, ◌<◌, ◌≤◌, [], ◌∷◌, length, if◌then◌else◌, nat_le};
-ghost use Rattle.report.specs.Text.{digit, decimal as text_decimal, whole as text_whole};
-ghost use Rattle.report.specs.Written.{Wrote};
+// Bytes, texts and whole numbers, written one after another to a lent slice; what finds no room is left out.
+ghost use Rattle.std.specs.Prelude.{◌≤◌, length};
 
-// One byte.
-pub(crate) fn put(out: &mut [u8], at: usize, byte: u8) -> usize
-    requires { at ≤ length out.old }
-    ensures { Wrote out.old at (byte ∷ []) out.new result }
-{
-    if at < out.len() {
-        out[at] = byte;
-        return at + 1;
-    }
-    at
+// A lent slice, and the place in it where the next text goes.
+// Not written to by `write!`, whose promise speaks of an Ok alone: here each text is promised in every case.
+#[derive(Drop)]
+pub(crate) struct Page<'a> {
+    pub out: &'a mut [u8],
+    pub at: usize,
+    ghost within: { at ≤ length out.now },
 }
 
-// The bytes of a text.
-pub(crate) fn text(out: &mut [u8], at: usize, bytes: &[u8]) -> usize
-    requires { at ≤ length out.old }
-    ensures { Wrote out.old at bytes.now out.new result }
-{
-    let mut next = at;
-    let mut i = 0;
-    while i < bytes.len() {
-        next = put(out, next, bytes[i]);
-        i += 1;
-    }
-    next
-}
+impl<'a> Page<'a> {
+    ghost use Rattle.std.specs.Prelude.{◌≡◌, ◌/◌, ◌<◌, [], ◌∷◌, if◌then◌else◌, nat_le};
+    ghost use Rattle.report.specs.Text.{digit, decimal as text_decimal, whole as text_whole};
+    ghost use Rattle.report.specs.Written.{Adds};
 
-// The digit of a power of ten, where the number reaches it.
-fn higher_digit(out: &mut [u8], at: usize, n: u64, power: u64) -> usize
-    requires { (at ≤ length out.old) × (0 < power) }
-    ensures { Wrote out.old at (if nat_le power n then digit (n / power) ∷ [] else []) out.new result }
-{
-    if power <= n {
-        return put(out, at, 48 + (n / power % 10) as u8);
+    // A page with nothing written.
+    pub(crate) fn new(out: &'a mut [u8]) -> Page<'a>
+        ensures same_slice { result.out.ghost_name ≡ out.entry.ghost_name }
+        ensures same { result.out.now ≡ out.old }
+        ensures start { result.at ≡ 0 }
+    {
+        Page { out, at: 0 }
     }
-    at
-}
 
-// A number in decimal: the digit of each power of ten that it reaches, then its last digit.
-pub(crate) fn decimal(out: &mut [u8], at: usize, n: u64) -> usize
-    requires { at ≤ length out.old }
-    ensures { Wrote out.old at (text_decimal n) out.new result }
-{
-    let mut next = at;
-    let mut power: u64 = 10_000_000_000_000_000_000;
-    let mut j: usize = 19;
-    while j > 0 {
-        next = higher_digit(out, next, n, power);
-        power /= 10;
-        j -= 1;
+    // One byte.
+    fn put(&mut self, byte: u8)
+        ensures { Adds self.old (byte ∷ []) self.new }
+    {
+        if self.at < self.out.len() {
+            self.out[self.at] = byte;
+            self.at += 1;
+        }
     }
-    put(out, next, 48 + (n % 10) as u8)
-}
 
-// A whole number in decimal.
-pub(crate) fn whole(out: &mut [u8], at: usize, z: i64) -> usize
-    requires { at ≤ length out.old }
-    ensures { Wrote out.old at (text_whole z) out.new result }
-{
-    if z < 0 {
-        let next = text(out, at, b"-");
-        return decimal(out, next, engine::magnitude(z));
+    // The bytes of a text.
+    pub(crate) fn text(&mut self, bytes: &[u8])
+        ensures { Adds self.old bytes.now self.new }
+    {
+        for byte in bytes {
+            self.put(*byte);
+        }
     }
-    decimal(out, at, engine::magnitude(z))
+
+    // The digit of a power of ten, where the number reaches it.
+    fn higher_digit(&mut self, n: u64, power: u64)
+        requires { 0 < power }
+        ensures { Adds self.old (if nat_le power n then digit (n / power) ∷ [] else []) self.new }
+    {
+        if power <= n {
+            self.put(48 + (n / power % 10) as u8);
+        }
+    }
+
+    // A number in decimal: the digit of each power of ten that it reaches, then its last digit.
+    pub(crate) fn decimal(&mut self, n: u64)
+        ensures { Adds self.old (text_decimal n) self.new }
+    {
+        let mut power: u64 = 10_000_000_000_000_000_000;
+        for _j in 0..19usize {
+            self.higher_digit(n, power);
+            power /= 10;
+        }
+        self.put(48 + (n % 10) as u8);
+    }
+
+    // A whole number in decimal.
+    pub(crate) fn whole(&mut self, z: i64)
+        ensures { Adds self.old (text_whole z) self.new }
+    {
+        if z < 0 {
+            self.text(b"-");
+        }
+        self.decimal(engine::magnitude(z));
+    }
 }

@@ -1,6 +1,7 @@
 -- The text stands at the start of the output. Assumes nothing.
-use Rattle.report.proofs.Lines.{promised}
+use Rattle.std.proofs.Common.{rules}
+use Rattle.report.proofs.Lines.{from_new}
 use Rattle.report.proofs.totals_line.Goals as goal
 
-pub returns : goal.returns
-returns c = let p = promised _ _ _ _ c.line.ensures in record { answers = p.0; within = p.1; writes = p.2 }
+pub returns-clause-writes : goal.returns-clause-writes
+returns-clause-writes c = let w = from_new c.new-page.ensures.same c.new-page.ensures.start c.line.ensures in search (w, rules)

@@ -1,15 +1,14 @@
 -- Each arm asks the engine at its order. Assumes nothing.
+use Rattle.std.proofs.Common.{arith, ap}
+use Rattle.report.specs.Grid.{size}
 use Rattle.report.proofs.Asking.{arm_cofactor}
-use Rattle.std.proofs.Common.{◌≡◌, arith}
 use Rattle.report.proofs.ask.cofactor.Goals as goal
 
-pub returns-in-2 : goal.returns-in-2
-returns-in-2 c = arm_cofactor c.requires.0.small 2 c.in-2.is c.matrix2.ensures c.number.type_inv _ c.number.ensures _ _ c.requires.1 c.requires.2 c.cofactor.ensures
+pub returns-in-Two : goal.returns-in-Two
+returns-in-Two c = arm_cofactor c.args.grid.now.small 2 (omega arith) (ap size c.in-Two.is) c.matrix2.ensures c.number.type_inv _ c.number.ensures _ _ c.requires.0 c.requires.1 c.cofactor.ensures
 
-pub returns-in-3 : goal.returns-in-3
-returns-in-3 c = arm_cofactor c.requires.0.small 3 c.in-3.is c.matrix3.ensures c.number-in-3.type_inv _ c.number-in-3.ensures _ _ c.requires.1 c.requires.2 c.cofactor-in-3.ensures
+pub returns-in-Three : goal.returns-in-Three
+returns-in-Three c = arm_cofactor c.args.grid.now.small 3 (omega arith) (ap size c.in-Three.is) c.matrix3.ensures c.number-in-Three.type_inv _ c.number-in-Three.ensures _ _ c.requires.0 c.requires.1 c.cofactor-in-Three.ensures
 
-pub returns-in_default : goal.returns-in_default
-returns-in_default c =
-    let is : c.args.n ≡ 4 = omega arith in
-    arm_cofactor c.requires.0.small 4 is c.matrix4.ensures c.number-in_default.type_inv _ c.number-in_default.ensures _ _ c.requires.1 c.requires.2 c.cofactor-in_default.ensures
+pub returns-in-Four : goal.returns-in-Four
+returns-in-Four c = arm_cofactor c.args.grid.now.small 4 (omega arith) (ap size c.in-Four.is) c.matrix4.ensures c.number-in-Four.type_inv _ c.number-in-Four.ensures _ _ c.requires.0 c.requires.1 c.cofactor-in-Four.ensures

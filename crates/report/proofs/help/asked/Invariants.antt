@@ -1,10 +1,7 @@
--- A turn passes one part that is not --help. Assumes nothing.
-use Rattle.std.proofs.Common.{suc, ◌-◌, length}
-use Rattle.report.proofs.Asked.{NotYet}
+-- The words that are left decide. Assumes nothing.
+use Rattle.std.proofs.Common.{◌≡◌}
+use Rattle.report.specs.Words.{some, words, is_help}
 use Rattle.report.proofs.help.asked.Given as goal
 
-abbrev pub invariant-loop-at : goal.invariant-loop-at
-invariant-loop-at l = NotYet l.line l.at
-
-abbrev pub decreases-loop-at : goal.decreases-loop-at
-decreases-loop-at l = suc (length l.line) - l.at
+abbrev pub invariant-loop-word : goal.invariant-loop-word
+invariant-loop-word l = some is_help (words l.word-iterator.line.now) ≡ some is_help (words l.fn.line)

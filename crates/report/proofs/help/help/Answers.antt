@@ -5,4 +5,4 @@ use Rattle.report.proofs.help.help.Goals as goal
 
 pub returns : goal.returns
 unfolding help
-returns c = then (then (then (then c.text-next.ensures c.text-next-2.ensures) c.text-next-3.ensures) c.text-next-4.ensures) c.text.ensures
+returns c = then (then (then (then c.text.ensures c.text-2.ensures) c.text-3.ensures) c.text-4.ensures) c.text-5.ensures

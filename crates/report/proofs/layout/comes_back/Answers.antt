@@ -1,5 +1,6 @@
 -- The sentence of the tests. Assumes nothing.
-use Rattle.std.proofs.Common.{eq-eqb, ne_eqb}
+use Rattle.std.proofs.Common.{sym, ◌∙◌}
+use Rattle.report.proofs.Whole.{four_tested}
 use Rattle.report.specs.Report.{comes_back}
 use Rattle.report.proofs.layout.comes_back.Goals as goal
 
@@ -7,10 +8,10 @@ pub returns-then-not-exact : goal.returns-then-not-exact
 unfolding comes_back
 returns-then-not-exact c = rw c.if-not-exact.true c.text.ensures
 
-pub returns-then-n-eq4 : goal.returns-then-n-eq4
+pub returns-then-eq : goal.returns-then-eq
 unfolding comes_back
-returns-then-n-eq4 c = rw (c.if-not-exact.false, eq-eqb _ _ c.if-n-eq4.true) c.text-then-n-eq4.ensures
+returns-then-eq c = rw (c.if-not-exact.false, sym (four_tested c.args.order) ∙ sym c.eq.ensures ∙ c.if-eq.true) c.text-then-eq.ensures
 
-pub returns : goal.returns
+pub returns-else-eq : goal.returns-else-eq
 unfolding comes_back
-returns c = rw (c.if-not-exact.false, ne_eqb _ _ c.if-n-eq4.false) c.text-2.ensures
+returns-else-eq c = rw (c.if-not-exact.false, sym (four_tested c.args.order) ∙ sym c.eq.ensures ∙ c.if-eq.false) c.text-else-eq.ensures

@@ -6,6 +6,6 @@ pub returns-then-exact : goal.returns-then-exact
 unfolding exactness
 returns-then-exact c = rw c.if-exact.true c.text.ensures
 
-pub returns : goal.returns
+pub returns-else-exact : goal.returns-else-exact
 unfolding exactness
-returns c = rw c.if-exact.false c.text-2.ensures
+returns-else-exact c = rw c.if-exact.false c.text-else-exact.ensures

@@ -1,13 +1,9 @@
--- A turn writes one entry. Assumes nothing.
-use Rattle.std.proofs.Common.{◌-◌, ◌≤◌, ◌++◌}
+-- A turn writes one cell. Assumes nothing.
+use Rattle.std.proofs.Common.{◌++◌}
 use Rattle.report.specs.Text.{text, each}
-use Rattle.report.specs.Written.{Wrote}
-use Rattle.report.specs.Entries.{columns}
-use Rattle.report.specs.Report.{cell}
+use Rattle.report.specs.Written.{Adds}
+use Rattle.report.specs.Shown.{shown_cell}
 use Rattle.report.proofs.layout.row.Given as goal
 
 abbrev pub invariant-loop-c : goal.invariant-loop-c
-invariant-loop-c l = (l.c ≤ l.n) × Wrote l.initial.out l.at (each l.c (λ c. text " " ++ cell l.inverse l.n (columns l.n l.list) l.sum c l.r)) l.out l.next
-
-abbrev pub decreases-loop-c : goal.decreases-loop-c
-decreases-loop-c l = l.n - l.c
+invariant-loop-c l = Adds l.initial.page (each l.c (λ c. text " " ++ shown_cell l.shown l.grid c l.r)) l.page

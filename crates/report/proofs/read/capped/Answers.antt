@@ -1,17 +1,12 @@
 -- A turn reads one digit. Assumes nothing.
-use Rattle.report.proofs.Reading.{cap_turn, cap_over}
-use Rattle.std.proofs.Common.{sym, refl, ◌∙◌, arith, rules}
+use Rattle.std.proofs.Common.{refl, arith}
+use Rattle.report.specs.Words.{value}
+use Rattle.report.proofs.Reading.{cap_turn}
 use Rattle.report.proofs.read.capped.Goals as goal
 
-pub loop-i-init : goal.loop-i-init
-loop-i-init c = (search rules, search rules, refl)
+pub loop-byte-init : goal.loop-byte-init
+unfolding value
+loop-byte-init c = refl
 
-pub loop-i-preserved : goal.loop-i-preserved
-loop-i-preserved c =
-    let l = c.loop-i in
-    (omega arith, omega (arith, c.continued-n.ensures), cap_turn _ l.i l.n _ c.loop-i-test.true c.continued-n.ensures ∙ l.invariant.2)
-
-pub returns : goal.returns
-returns c =
-    let l = c.loop-i in
-    sym (cap_over _ l.i l.n c.loop-i-test.false l.invariant.1) ∙ l.invariant.2
+pub loop-byte-preserved : goal.loop-byte-preserved
+loop-byte-preserved c = cap_turn _ c.loop-byte.byte-index _ _ (omega arith) c.loop-byte.invariant c.continued-n.ensures

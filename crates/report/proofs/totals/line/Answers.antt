@@ -5,4 +5,4 @@ use Rattle.report.proofs.totals.line.Goals as goal
 
 pub returns : goal.returns
 unfolding totals_text
-returns c = then (then (then (then c.sums-next.ensures c.labelled-next.ensures) c.labelled-next-2.ensures) c.labelled-next-3.ensures) c.text.ensures
+returns c = then (then (then (then c.sums.ensures c.labelled.ensures) c.labelled-2.ensures) c.labelled-3.ensures) c.text.ensures

@@ -1,9 +1,8 @@
 -- Its texts, one after another. Assumes nothing.
-use Rattle.std.proofs.Common.{rules}
 use Rattle.report.proofs.Writing.{then}
 use Rattle.report.specs.Verdict.{sums_text}
 use Rattle.report.proofs.totals.sums.Goals as goal
 
 pub returns : goal.returns
 unfolding sums_text
-returns c = search (then, rules)
+returns c = then (then c.labelled.ensures c.labelled-2.ensures) c.labelled-3.ensures
