@@ -1,8 +1,6 @@
 // Order 4 swaps of a matrix that is lent. The exports.
-ghost use Rattle.std.specs.Prelude.{◌≡◌};
-ghost use Rattle.matrix.specs.InPlace.{swapped_outcome};
 ghost use Rattle.matrix.specs.Places.{swap_rows4, swap_columns4, swap_elements4};
-ghost use Rattle.migthumo.specs.Entries.{code, Answers};
+ghost use Rattle.migthumo.specs.Entries.{Answers};
 ghost use Rattle.migthumo.specs.Flat.{column_at, row_at};
 
 use matrix::Matrix4;

@@ -1,8 +1,6 @@
 // Moves of many vectors or points by one flat matrix. The exports.
-ghost use Rattle.std.specs.Prelude.{◌≡◌};
 ghost use Rattle.bulk.specs.Moves.{move_vectors, move_points};
-ghost use Rattle.bulk.specs.Refusals.{moved_outcome};
-ghost use Rattle.migthumo.specs.Entries.{code, Answers};
+ghost use Rattle.migthumo.specs.Entries.{Answers};
 
 // The matrix times every vector; the output is as long as the vectors.
 #[unsafe(no_mangle)]
