@@ -154,6 +154,9 @@ def implemented(crate, methods):
     """Each method and constant of a public trait at each record that has it: its place under proofs/, the name of its line, and what the trait says of it."""
     for path in sorted(glob.glob(f"crates/{crate}/src/**/*.rt", recursive=True)):
         module = [] if path.endswith("src/lib.rt") else path[len(f"crates/{crate}/src/") : -3].split("/")
+        # a conversion between two records says of what it gives what its impl's ghost does
+        for source, record in re.findall(r"\bimpl From<(\w+)> for (\w+)\s*\{\s*ghost from_gives", code(path)):
+            yield path, [*module, f"{record}From{source}", "from"], f"{record}_from_{source}".lower(), (0, False)
         for trait, number, record in re.findall(r"\bimpl (\w+)(?:<(\d+)>)? for (\w+)", code(path)):
             for name, said in methods.get(trait, {}).items():
                 yield path, [*module, record + trait + number, name], f"{record}_{name}".lower(), said

@@ -44,7 +44,7 @@ impl Square for Matrix2 {
 
     #[tactic(auto, using(crate::proofs::Corners::corner2))]
     fn cornered(self) -> Matrix4 {
-        Matrix4::from_matrix2(self)
+        Matrix4::from(self)
     }
 }
 
@@ -61,7 +61,7 @@ impl Square for Matrix3 {
 
     #[tactic(auto, using(crate::proofs::Corners::corner3))]
     fn cornered(self) -> Matrix4 {
-        Matrix4::from_matrix3(self)
+        Matrix4::from(self)
     }
 }
 

@@ -16,6 +16,9 @@ use Rattle.matrix.proofs.inverse.Matrix3Invert
 use Rattle.matrix.proofs.square.Matrix4SquareMatrix
 use Rattle.matrix.proofs.places.Matrix4Matrix4
 use Rattle.matrix.proofs.inverse.Matrix4Invert
+use Rattle.matrix.proofs.records.Matrix3FromMatrix2
+use Rattle.matrix.proofs.records.Matrix4FromMatrix2
+use Rattle.matrix.proofs.records.Matrix4FromMatrix3
 use Rattle.matrix.proofs.records.Matrix2
 use Rattle.matrix.proofs.records.Matrix3
 use Rattle.matrix.proofs.records.Matrix4
@@ -88,7 +91,7 @@ matrix3_from_value = value
 pub matrix3_from_diagonal : Decided Matrix3SquareMatrix.from_diagonal.Reads.Learnt
 matrix3_from_diagonal = value
 
-pub matrix3_from_matrix2 : Decided Matrix3.from_matrix2.Reads.Learnt
+pub matrix3_from_matrix2 : Decided Matrix3FromMatrix2.from.Reads.Learnt
 matrix3_from_matrix2 = value
 
 pub matrix4_order : Decided Matrix4SquareMatrix.ORDER.Reads.Learnt
@@ -127,10 +130,10 @@ matrix4_from_value = value
 pub matrix4_from_diagonal : Decided Matrix4SquareMatrix.from_diagonal.Reads.Learnt
 matrix4_from_diagonal = value
 
-pub matrix4_from_matrix2 : Decided Matrix4.from_matrix2.Reads.Learnt
+pub matrix4_from_matrix2 : Decided Matrix4FromMatrix2.from.Reads.Learnt
 matrix4_from_matrix2 = value
 
-pub matrix4_from_matrix3 : Decided Matrix4.from_matrix3.Reads.Learnt
+pub matrix4_from_matrix3 : Decided Matrix4FromMatrix3.from.Reads.Learnt
 matrix4_from_matrix3 = value
 
 -- ---- places.rt

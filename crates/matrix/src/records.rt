@@ -122,13 +122,6 @@ impl Matrix3 {
     {
         Matrix3::from_array([[x, 0.0, 0.0], [0.0, y, 0.0], [0.0, 0.0, 1.0]])
     }
-
-    // A matrix of order 2 in the top left corner of the identity.
-    pub fn from_matrix2(m: Matrix2) -> Matrix3
-        ensures { result ≡ embed23 m }
-    {
-        Matrix3::from_array([[m.x.x, m.x.y, 0.0], [m.y.x, m.y.y, 0.0], [0.0, 0.0, 1.0]])
-    }
 }
 
 impl Matrix4 {
@@ -203,11 +196,22 @@ impl Matrix4 {
             [0.0, 0.0, 0.0, 1.0],
         ])
     }
+}
 
-    // A matrix of order 2 in the top left corner of the identity.
-    pub fn from_matrix2(m: Matrix2) -> Matrix4
-        ensures { result ≡ embed24 m }
-    {
+// A matrix of order 2 in the top left corner of the identity.
+impl From<Matrix2> for Matrix3 {
+    ghost from_gives = { λ m r. r ≡ embed23 m };
+
+    fn from(m: Matrix2) -> Matrix3 {
+        Matrix3::from_array([[m.x.x, m.x.y, 0.0], [m.y.x, m.y.y, 0.0], [0.0, 0.0, 1.0]])
+    }
+}
+
+// A matrix of order 2 in the top left corner of the identity.
+impl From<Matrix2> for Matrix4 {
+    ghost from_gives = { λ m r. r ≡ embed24 m };
+
+    fn from(m: Matrix2) -> Matrix4 {
         Matrix4::from_array([
             [m.x.x, m.x.y, 0.0, 0.0],
             [m.y.x, m.y.y, 0.0, 0.0],
@@ -215,11 +219,13 @@ impl Matrix4 {
             [0.0, 0.0, 0.0, 1.0],
         ])
     }
+}
 
-    // A matrix of order 3 in the top left corner of the identity.
-    pub fn from_matrix3(m: Matrix3) -> Matrix4
-        ensures { result ≡ embed34 m }
-    {
+// A matrix of order 3 in the top left corner of the identity.
+impl From<Matrix3> for Matrix4 {
+    ghost from_gives = { λ m r. r ≡ embed34 m };
+
+    fn from(m: Matrix3) -> Matrix4 {
         Matrix4::from_array([
             [m.x.x, m.x.y, m.x.z, 0.0],
             [m.y.x, m.y.y, m.y.z, 0.0],

@@ -68,27 +68,27 @@ impl Matrix4 {
     pub fn from_angle_x(s: f64, c: f64) -> Matrix4
         ensures { result ≡ from_angle_x4 s c }
     {
-        Matrix4::from_matrix3(Matrix3::from_angle_x(s, c))
+        Matrix4::from(Matrix3::from_angle_x(s, c))
     }
 
     // A rotation of space around the y axis.
     pub fn from_angle_y(s: f64, c: f64) -> Matrix4
         ensures { result ≡ from_angle_y4 s c }
     {
-        Matrix4::from_matrix3(Matrix3::from_angle_y(s, c))
+        Matrix4::from(Matrix3::from_angle_y(s, c))
     }
 
     // A rotation of space around the z axis.
     pub fn from_angle_z(s: f64, c: f64) -> Matrix4
         ensures { result ≡ from_angle_z4 s c }
     {
-        Matrix4::from_matrix3(Matrix3::from_angle_z(s, c))
+        Matrix4::from(Matrix3::from_angle_z(s, c))
     }
 
     // A rotation of space around an axis, which is taken as it is, whatever its length.
     pub fn from_axis_angle(axis: Vector3, s: f64, c: f64) -> Matrix4
         ensures { result ≡ from_axis_angle4 axis s c }
     {
-        Matrix4::from_matrix3(Matrix3::from_axis_angle(axis, s, c))
+        Matrix4::from(Matrix3::from_axis_angle(axis, s, c))
     }
 }

@@ -13,9 +13,9 @@ pub extern "C" fn migthumo_embed(order: usize, to: usize, m: &[f64], out: &mut [
     ensures { Answers result out.old out.new (embed order to m.now (length out.old)) }
 {
     code::answered(match (order, to) {
-        (2, 3) => entry::of_one(m, out, |m: Matrix2| Ok(Matrix3::from_matrix2(m))),
-        (2, 4) => entry::of_one(m, out, |m: Matrix2| Ok(Matrix4::from_matrix2(m))),
-        (3, 4) => entry::of_one(m, out, |m: Matrix3| Ok(Matrix4::from_matrix3(m))),
+        (2, 3) => entry::of_one(m, out, |m: Matrix2| Ok(Matrix3::from(m))),
+        (2, 4) => entry::of_one(m, out, |m: Matrix2| Ok(Matrix4::from(m))),
+        (3, 4) => entry::of_one(m, out, |m: Matrix3| Ok(Matrix4::from(m))),
         _ => Err(Refusal::Order),
     })
 }
