@@ -1,5 +1,5 @@
 // Determinants and inverses: document 01, 'Modules, leaves first', 5.
-ghost use Rattle.std.specs.Prelude.{◌≡◌, ◌<◌, Float};
+ghost use Rattle.std.specs.Prelude.{◌≡◌, Float};
 ghost use Rattle.vector.specs.Arithmetic.{◌⊕◌, ◌⊖◌, ◌⊗◌};
 ghost use Rattle.vector.specs.Vectors.{entries4, of_entries3, without};
 ghost use Rattle.vector.specs.Refusals.{outcome, given, after};
@@ -42,6 +42,7 @@ impl Invert for Matrix2 {
 
     ghost inverse = { inverse2 };
 
+    #[tactic(auto, unfolding(crate::specs::Inverse::det2))]
     fn determinant(self) -> f64 {
         self.x.x * self.y.y - self.y.x * self.x.y
     }
@@ -61,6 +62,7 @@ impl Invert for Matrix3 {
 
     ghost inverse = { inverse3 };
 
+    #[tactic(auto, unfolding(crate::specs::Inverse::det3))]
     fn determinant(self) -> f64 {
         self.x.x * (self.y.y * self.z.z - self.z.y * self.y.z)
             - self.y.x * (self.x.y * self.z.z - self.z.y * self.x.z)
@@ -82,6 +84,7 @@ impl Invert for Matrix4 {
 
     ghost inverse = { inverse4 };
 
+    #[tactic(auto, unfolding(crate::specs::Inverse::det4))]
     fn determinant(self) -> f64 {
         // Column r of the transpose is row r.
         let rows = self.transpose();
@@ -101,8 +104,8 @@ impl Invert for Matrix4 {
 }
 
 // Column i of the inverse, from the transpose and the determinant's reciprocal.
+#[tactic(auto, unfolding(crate::specs::Inverse::inverse_column))]
 fn inverse_column(t: Matrix4, inv_det: f64, i: usize) -> Vector4
-    requires { i < 4 }
     ensures { result ≡ inverse_column t inv_det i }
 {
     Vector4::new(
@@ -114,16 +117,15 @@ fn inverse_column(t: Matrix4, inv_det: f64, i: usize) -> Vector4
 }
 
 // The minor of the transpose without column i and element j, with its sign; `inverse_column` multiplies by the reciprocal.
+#[tactic(auto, unfolding(crate::specs::Inverse::cofactor))]
 fn cf(t: Matrix4, i: usize, j: usize) -> f64
-    requires { (i < 4) × (j < 4) }
     ensures { result ≡ cofactor t i j }
 {
     without_place(t, i, j).determinant() * sign_of(i, j)
 }
 
-// The matrix without column i, and each kept column without its element j.
+// The matrix without column i, and each kept column without its element j; past the last of them nothing is left out.
 fn without_place(t: Matrix4, i: usize, j: usize) -> Matrix3
-    requires { (i < 4) × (j < 4) }
     ensures { result ≡ without_place t i j }
 {
     match i {
@@ -134,23 +136,22 @@ fn without_place(t: Matrix4, i: usize, j: usize) -> Matrix3
     }
 }
 
-// The vector without its element n, which is below four: the refusal does not come.
+// The vector without its element n, or its first three where there is no such element.
 fn kept(v: Vector4, n: usize) -> Vector3
-    requires { n < 4 }
     ensures { result ≡ of_entries3 (without n (entries4 v)) }
 {
-    v.truncate_n(n).unwrap()
+    v.truncate_n(n).unwrap_or(Vector3::new(v.x, v.y, v.z))
 }
 
 // -1 where i + j is odd, and 1 elsewhere.
 fn sign_of(i: usize, j: usize) -> f64
-    requires { (i < 4) × (j < 4) }
     ensures { result ≡ sign i j }
 {
-    if (i + j) % 2 == 1 { -1.0 } else { 1.0 }
+    if i % 2 != j % 2 { -1.0 } else { 1.0 }
 }
 
 // The text's det_sub_proc_unsafe, handed the rows in place of their numbers x, y and z: `row_x.y` is its `s[4 + x]`.
+#[tactic(auto, unfolding(crate::specs::Inverse::det_sub_proc))]
 fn det_sub_proc(row_x: Vector4, row_y: Vector4, row_z: Vector4) -> Vector4
     ensures { result ≡ det_sub_proc row_x row_y row_z }
 {

@@ -21,6 +21,7 @@ pub struct Column(pub usize);
 pub struct Row(pub usize);
 
 // Whether the row number, the first or the second, is below the order: refusal 12.
+#[tactic(auto, using(vector::proofs::Checks::within, vector::proofs::Checks::outside))]
 pub(crate) fn check_row(order: usize, place: Place, r: Row) -> Result<(), Refusal>
     ensures { outcome result ≡ row_below order place r }
 {
@@ -32,6 +33,7 @@ pub(crate) fn check_row(order: usize, place: Place, r: Row) -> Result<(), Refusa
 }
 
 // Whether the column number, the first or the second, is below the order: refusal 11.
+#[tactic(auto, using(vector::proofs::Checks::within, vector::proofs::Checks::outside))]
 pub(crate) fn check_column(order: usize, place: Place, c: Column) -> Result<(), Refusal>
     ensures { outcome result ≡ column_below order place c }
 {
@@ -72,6 +74,7 @@ pub(crate) fn check_elements(order: usize, ac: Column, ar: Row, bc: Column, br: 
 }
 
 // The list with what stands at places i and j exchanged: both are read, then both are written.
+// Here and in the three below the numbers are asked to be below N: a type that held this would make the tests promise pairs of numbers in place of `rows_below`.
 fn exchanged<T: Copy, const N: usize>(list: [T; N], i: usize, j: usize) -> [T; N]
     requires { (i < N) × (j < N) }
     ensures { (past : T) → result ≡ exchange past i j list }
@@ -188,6 +191,7 @@ impl Matrix<2> for Matrix2 {
         Matrix2::new(m[0][0], m[0][1], m[1][0], m[1][1])
     }
 
+    #[tactic(auto, using(vector::proofs::Checks::outside), unfolding(vector::specs::Refusals::below_limit))]
     fn row(self, r: Row) -> Result<Vector2, Refusal> {
         let rows = self.transpose();
         match r.0 {
@@ -231,6 +235,7 @@ impl Matrix<3> for Matrix3 {
         )
     }
 
+    #[tactic(auto, using(vector::proofs::Checks::outside), unfolding(vector::specs::Refusals::below_limit))]
     fn row(self, r: Row) -> Result<Vector3, Refusal> {
         let rows = self.transpose();
         match r.0 {
@@ -281,6 +286,7 @@ impl Matrix<4> for Matrix4 {
         )
     }
 
+    #[tactic(auto, using(vector::proofs::Checks::outside), unfolding(vector::specs::Refusals::below_limit))]
     fn row(self, r: Row) -> Result<Vector4, Refusal> {
         let rows = self.transpose();
         match r.0 {

@@ -1,6 +1,6 @@
--- Below four `truncate_n` gives its vector, so the refusal does not come. Assumes nothing.
-use Rattle.matrix.proofs.Kept.{given_below}
+-- Below four `truncate_n` gives its vector; past it nothing is left out, and the first three stand. Assumes nothing.
+use Rattle.matrix.proofs.Kept.{unwrapped}
 use Rattle.matrix.proofs.inverse.kept.Goals as goal
 
-pub unwrap-requires : goal.unwrap-requires
-unwrap-requires c = given_below _ _ _ c.requires c.truncate_n.ensures
+pub returns : goal.returns
+returns c = rw (c.unwrap_or.ensures, c.new.ensures) (unwrapped _ _ _ c.truncate_n.ensures)
