@@ -40,6 +40,7 @@ impl Load for Matrix2 {
 
     ghost flat = { flat2 };
 
+    #[tactic(auto, using(crate::proofs::Flat::read_flat2))]
     fn read(s: &[f64]) -> Matrix2 {
         Matrix2::from_array([[s[0], s[1]], [s[2], s[3]]])
     }
@@ -52,6 +53,7 @@ impl Load for Matrix3 {
 
     ghost flat = { flat3 };
 
+    #[tactic(auto, using(crate::proofs::Flat::read_flat3))]
     fn read(s: &[f64]) -> Matrix3 {
         Matrix3::from_array([[s[0], s[1], s[2]], [s[3], s[4], s[5]], [s[6], s[7], s[8]]])
     }
@@ -64,6 +66,7 @@ impl Load for Matrix4 {
 
     ghost flat = { flat4 };
 
+    #[tactic(auto, using(crate::proofs::Flat::read_flat4))]
     fn read(s: &[f64]) -> Matrix4 {
         Matrix4::from_array([
             [s[0], s[1], s[2], s[3]],

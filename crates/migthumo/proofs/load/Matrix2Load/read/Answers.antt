@@ -1,6 +1,0 @@
--- The numbers in their places are the matrix of the slice's columns. Assumes nothing.
-use Rattle.migthumo.proofs.Flat.{read_flat2}
-use Rattle.migthumo.proofs.load.Matrix2Load.read.Goals as goal
-
-pub returns : goal.returns
-returns c = rw (c.from_array.ensures) (read_flat2 c.args.s.now)
