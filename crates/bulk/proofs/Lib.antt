@@ -1,4 +1,3 @@
-pub mod Answers
 pub mod Checks
 pub mod Groups
 pub mod Moves

@@ -1,16 +1,9 @@
--- Document 01, 'The numbers a refusal carries': what a bulk move tests, in the order 5, 3, 4, and what its answer means.
+-- Document 01, 'The numbers a refusal carries': what a bulk move tests, in the order 5, 3, 4.
 -- Assumes nothing.
 use Rattle.std.specs.Prelude.{ℕ, ◌+◌, ◌*◌, ◌-◌, ◌%◌, ◌≤◌, ◌≡◌, cond, ◌&&◌, List, leb, eqb, length, Float}
 use Rattle.vector.specs.declared.refusal.Refusal.{Refusal}
 use Rattle.vector.specs.declared.refusal.Refusal.TheVariants.{InputLength, OutputLength, Order}
 use Rattle.vector.specs.Refusals.{Outcome, given, refused_for, after}
-use Rattle.bulk.specs.declared.Moved.{Moved}
-use Rattle.bulk.specs.declared.Moved.TheVariants.{Done, Refused}
-
--- what the answer of a bulk move means
-abbrev pub moved_outcome : Moved → Outcome Unit
-moved_outcome Done = given tt
-moved_outcome (Refused cause) = refused_for cause
 
 -- refusal 5 unless the order is from the least one that the entry takes up to 4
 unfoldable pub order_from : ℕ → ℕ → Outcome Unit

@@ -1,6 +1,6 @@
--- A check that found a cause is the answer and nothing is written; one that found nothing lets every vector be moved. Assumes nothing.
-use Rattle.bulk.proofs.Checks.{fitting, passes}
+-- A check that refused nothing found lengths that fit. Assumes nothing.
+use Rattle.bulk.proofs.Checks.{fitting}
 use Rattle.bulk.proofs.move_vectors.Goals as goal
 
 pub move_each-requires : goal.move_each-requires
-move_each-requires c = fitting 0 _ _ (passes _ _ c.check.ensures c.in-Done.is)
+move_each-requires c = fitting 0 _ _ c.in_ok-check.ensures
