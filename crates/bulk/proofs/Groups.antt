@@ -1,16 +1,15 @@
 -- A flat list by groups of n numbers, for any n: how numbers are read and written there, the loop that makes each group over,
 -- and what then stands at each group. Assumes nothing.
-use mathlib.Core.Path.{◌≡◌, refl, sym, ap, ◌∙◌}
+use mathlib.Core.Path.{◌≡◌, sym, ap, ◌∙◌}
 use mathlib.Core.List.{List, [], ◌++◌, append_assoc, append-nil, flat_map}
 use Prim.Native.Nat.{ℕ, zero, suc, ◌+◌, ◌*◌, ◌/◌, ◌%◌, ◌<◌, ◌≤◌}
-use native.Mathlib.Nat.{add-zero, add-div_left, div-add-mod', zero-div, suc-mul, zero-mul, add_comm, mul-div_cancel_left}
+use native.Mathlib.Nat.{add-zero, add-div_left, div-add-mod', zero-div, suc-mul, zero-mul, add_comm}
 use native.Mathlib.Numerals.{add-one}
 use native.Mathlib.Omega.{arith}
 use lib.Ieee.{Float, nan}
 use lib.Dec.{lit<}
 use lib.ListN.{length, take, drop, length-append, length-drop, drop_of_length-le}
 use lib.Seq.{get_or-take, get_or-drop, drop-drop, take_all, take_at, drop-append-add, length-take-le, sets, sets-eq}
-use Rattle.std.specs.Simd.{first_chunks}
 use Rattle.vector.specs.Vectors.{vector2, vector3, vector4, entry, of_entries2, of_entries3, of_entries4}
 use Rattle.vector.specs.declared.Vector2.{Vector2}
 use Rattle.vector.specs.declared.Vector3.{Vector3}
@@ -41,15 +40,6 @@ columns3 l = rw (drop-drop 3 3 l)
 pub columns4 : (l : List Float) → matrix4 (of_entries4 (part 4 0 l)) (of_entries4 (part 4 4 l)) (of_entries4 (part 4 8 l)) (of_entries4 (part 4 12 l)) ≡ flat4 l
 unfolding flat4
 columns4 l = rw (drop-drop 4 4 l, drop-drop 4 8 l)
-
--- the first chunks of a slice are its first groups
-chunks : (k n : ℕ) (l : List Float) → first_chunks n k l ≡ groups k n l
-chunks zero n l = refl
-chunks (suc k) n l = rw (chunks k n (drop n l)) refl
-
--- and all of those of a square
-pub square : (n : ℕ) (l : List Float) → 0 < n → length l ≡ n * n → first_chunks n (length l / n) l ≡ groups n n l
-square n l some e = rw (e, mul-div_cancel_left n some) (chunks n n l)
 
 -- ---- the loop
 

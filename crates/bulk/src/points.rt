@@ -5,7 +5,7 @@ ghost use Rattle.bulk.specs.Refusals.{lengths_of, Fits};
 ghost use Rattle.bulk.specs.Moves.{move_point, move_point3, move_point4};
 
 use crate::each::make_over;
-use crate::load::columns;
+use crate::load;
 use matrix::{Matrix3, Matrix4};
 use vector::{Vector2, Vector3, Vector4};
 
@@ -32,11 +32,11 @@ pub(crate) fn move_each(order: usize, matrix: &[f64], points: &[f64], output: &m
 {
     match order {
         3 => {
-            let m = Matrix3::from_array(columns(matrix));
+            let m = load::matrix3(matrix);
             make_over(|p| move_point3(m, p), points, output)
         }
         _ => {
-            let m = Matrix4::from_array(columns(matrix));
+            let m = load::matrix4(matrix);
             make_over(|p| move_point4(m, p), points, output)
         }
     }

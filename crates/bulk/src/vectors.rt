@@ -5,8 +5,7 @@ ghost use Rattle.bulk.specs.Refusals.{lengths_of, Fits};
 ghost use Rattle.bulk.specs.Moves.{move_vector};
 
 use crate::each::make_over;
-use crate::load::columns;
-use matrix::{Matrix2, Matrix3, Matrix4};
+use crate::load;
 
 // Vectors of an order whose lengths fit.
 pub(crate) fn move_each(order: usize, matrix: &[f64], vectors: &[f64], output: &mut [f64])
@@ -15,15 +14,15 @@ pub(crate) fn move_each(order: usize, matrix: &[f64], vectors: &[f64], output: &
 {
     match order {
         2 => {
-            let m = Matrix2::from_array(columns(matrix));
+            let m = load::matrix2(matrix);
             make_over(|v| m.mul_vector(v), vectors, output)
         }
         3 => {
-            let m = Matrix3::from_array(columns(matrix));
+            let m = load::matrix3(matrix);
             make_over(|v| m.mul_vector(v), vectors, output)
         }
         _ => {
-            let m = Matrix4::from_array(columns(matrix));
+            let m = load::matrix4(matrix);
             make_over(|v| m.mul_vector(v), vectors, output)
         }
     }
