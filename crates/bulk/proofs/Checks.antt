@@ -1,14 +1,13 @@
 -- What the tests of a bulk move say: each on both sides of its edge, and what holds where none refuses.
 -- Assumes nothing.
-use mathlib.Core.Path.{◌≡◌, refl, sym, ap, ◌∙◌}
+use mathlib.Core.Path.{◌≡◌, refl, sym}
 use mathlib.Core.Bool.{Bool, true, false, ◌&&◌}
-use Prim.Native.Nat.{ℕ, ◌+◌, ◌*◌, ◌-◌, ◌%◌, ◌<◌, ◌≤◌}
-use native.Mathlib.Nat.{mul-le-mul}
+use Prim.Native.Nat.{ℕ, ◌+◌, ◌<◌, ◌≤◌}
 use native.Mathlib.Omega.{arith}
 use borrow.Author.Tests.{le-leb, lt-leb, leb-true, eq-eqb, ne_eqb, eqb-true}
 use Rattle.vector.specs.declared.refusal.Refusal.{Refusal}
 use Rattle.vector.specs.declared.refusal.Refusal.TheVariants.{Order}
-use Rattle.vector.specs.Refusals.{Outcome, given, refused_for, after, done, leaves}
+use Rattle.vector.specs.Refusals.{given, refused_for}
 use Rattle.vector.proofs.Checks.{passed}
 use Rattle.matrix.proofs.Ranges.{both}
 use Rattle.bulk.specs.Refusals.{order_from, number_is, Lengths, move_fits, Fits}
@@ -26,10 +25,6 @@ order_low least order low = simp (lt-leb least order low)
 pub order_high : (least order : ℕ) → least ≤ order → 4 < order → order_from least order ≡ refused_for Order
 unfolding order_from
 order_high least order low high = simp (le-leb least order low, lt-leb order 4 high)
-
--- the square of an order up to 4
-pub square_small : (order : ℕ) → order ≤ 4 → order * order ≤ 16
-square_small order most = mul-le-mul most most
 
 -- ---- a length
 
@@ -57,27 +52,11 @@ pub length_is : (cause : Refusal) (length wanted : ℕ) → number_is cause leng
 unfolding number_is
 length_is cause length wanted e = eqb-true length wanted (passed _ _ e)
 
-pub fitting : (short order : ℕ) (l : Lengths) → move_fits short order l ≡ given tt → Fits short order l
+pub fitting : (short order : ℕ) (l : Lengths) → given tt ≡ move_fits short order l → Fits short order l
 unfolding move_fits
 fitting short order l e =
-    let a = both _ _ (sym e) in
+    let a = both _ _ e in
     let b = both _ _ (sym a.1) in
     let c = both _ _ (sym b.1) in
     let o = order_is (2 + short) order a.0 in
     record { least = o.0; most = o.1; square = length_is _ _ _ b.0; whole = length_is _ _ _ c.0; same = length_is _ _ _ c.1 }
-
-module _ (short order : ℕ) (l : Lengths) (f : Fits short order l) (n : ℕ) (is : order ≡ n) where
-  -- at a known order the matrix has its square of numbers
-  pub squared : l.matrix ≡ n * n
-  squared = f.square ∙ ap (λ k. k * k) is
-
-  -- and the vectors or points are whole, the output as long
-  pub wholes : (l.input % (n - short) ≡ 0) × (l.output ≡ l.input)
-  wholes = (sym (ap (λ k. l.input % (k - short)) is) ∙ f.whole, f.same)
-
--- an order that is none of the others is 4
-pub vectors_last : (order : ℕ) (l : Lengths) → Fits 0 order l → (order ≡ 2 → ⊥) → (order ≡ 3 → ⊥) → order ≡ 4
-vectors_last order l f two three = omega (arith, f.least, f.most, two, three)
-
-pub points_last : (order : ℕ) (l : Lengths) → Fits 1 order l → (order ≡ 3 → ⊥) → order ≡ 4
-points_last order l f three = omega (arith, f.least, f.most, three)

@@ -1,15 +1,15 @@
 -- A flat list by groups of n numbers, for any n: how numbers are read and written there, the loop that makes each group over,
 -- and what then stands at each group. Assumes nothing.
-use mathlib.Core.Path.{◌≡◌, refl, sym, ap, ◌∙◌}
+use mathlib.Core.Path.{◌≡◌, sym, ap, ◌∙◌}
 use mathlib.Core.List.{List, [], ◌++◌, append_assoc, append-nil, flat_map}
 use Prim.Native.Nat.{ℕ, zero, suc, ◌+◌, ◌*◌, ◌/◌, ◌%◌, ◌<◌, ◌≤◌}
-use native.Mathlib.Nat.{add-zero, add-div_left, div-add-mod', zero-div, zero-mod, add-mod_right, suc-mul, zero-mul, add_comm}
+use native.Mathlib.Nat.{add-zero, add-div_left, div-add-mod', zero-div, suc-mul, zero-mul, add_comm}
 use native.Mathlib.Numerals.{add-one}
 use native.Mathlib.Omega.{arith}
 use lib.Ieee.{Float, nan}
 use lib.Dec.{lit<}
 use lib.ListN.{length, take, drop, length-append, length-drop, drop_of_length-le}
-use lib.Seq.{get_or-take, get_or-drop, drop-drop, take_all, take_at, drop-append-add, length-take-le, sets, sets-eq, length-sets}
+use lib.Seq.{get_or-take, get_or-drop, drop-drop, take_all, take_at, drop-append-add, length-take-le, sets, sets-eq}
 use Rattle.vector.specs.Vectors.{vector2, vector3, vector4, entry, of_entries2, of_entries3, of_entries4}
 use Rattle.vector.specs.declared.Vector2.{Vector2}
 use Rattle.vector.specs.declared.Vector3.{Vector3}
@@ -19,7 +19,7 @@ use Rattle.bulk.specs.Moves.{flat3, flat4}
 use Rattle.bulk.specs.Groups.{part, group, groups, each}
 
 -- entry j of the n numbers from place i on
-pub at_part : (n i j : ℕ) (l : List Float) → j < n → entry (part n i l) j ≡ entry l (i + j)
+at_part : (n i j : ℕ) (l : List Float) → j < n → entry (part n i l) j ≡ entry l (i + j)
 at_part n i j l below = get_or-take n (drop i l) j nan below ∙ get_or-drop i l j nan
 
 -- so a vector of the numbers read one by one is the vector of the part
@@ -62,31 +62,31 @@ module _ (n : ℕ) (some : 0 < n) (f : List Float → List Float) where
   wrote l g i long within =
       rw (sets-eq g l i (omega arith)) (take_at (take i l ++ g) _ (i + n) (length-append (take i l) g ∙ rw (length-take-le i l (omega arith), long)))
 
-  -- where the loop stands at place i, a whole number of groups in: what is written, and what is left made over, is the whole
-  pub record SoFar (input output : List Float) (i : ℕ) : Type 0 where
-    pub whole : i % n ≡ 0
-    pub within : i ≤ length input
-    pub same : length output ≡ length input
-    pub moved : take i output ++ each n f (drop i input) ≡ each n f input
-
-  pub start : (input output : List Float) → length output ≡ length input → SoFar input output 0
-  start input output same = record { whole = zero-mod n; within = omega arith; same = same; moved = refl }
+  -- where the loop stands at place i: what is written before it, and what is left made over, is the whole
+  abbrev pub SoFar : (input output : List Float) (i : ℕ) → Type 0
+  SoFar input output i = take i output ++ each n f (drop i input) ≡ each n f input
 
   -- a turn writes g, which is what f makes of the group from place i on
-  pub turn : (input output : List Float) (i : ℕ) (g output' : List Float) → SoFar input output i → i + n ≤ length input
+  pub turn : (input output : List Float) (i : ℕ) (g output' : List Float) → SoFar input output i → length output ≡ length input → i + n ≤ length input
       → g ≡ f (part n i input) → length g ≡ n → output' ≡ sets output i g → SoFar input output' (i + n)
-  turn input output i g output' s within made long stored =
-      record {
-        whole = add-mod_right i n ∙ s.whole;
-        within = within;
-        same = rw (stored, length-sets) s.same;
-        moved = rw (stored, wrote output g i long (omega (arith, s.same)), made, append_assoc, ← next input i within) s.moved;
-      }
+  turn input output i g output' so-far same within made long stored =
+      rw (stored, wrote output g i long (omega (arith, same)), made, append_assoc, ← next input i within) so-far
 
   -- at the end the output is every group made over
-  pub ended : (input output : List Float) (i : ℕ) → SoFar input output i → length input ≤ i → output ≡ each n f input
-  ended input output i s past =
-      sym (append-nil output) ∙ rw (take_all i output (omega (arith, s.same)), drop_of_length-le input {i = i} past, none) at s.moved
+  pub ended : (input output : List Float) (i : ℕ) → SoFar input output i → length output ≡ length input → length input ≤ i → output ≡ each n f input
+  ended input output i so-far same past =
+      sym (append-nil output) ∙ rw (take_all i output (omega (arith, same)), drop_of_length-le input {i = i} past, none) at so-far
+
+-- fewer groups of n have a whole group more in the larger number of them
+one_more : (n a b : ℕ) → a * n < b * n → a * n + n ≤ b * n
+one_more n a zero h = absurd (omega (arith, h, zero-mul n))
+one_more n zero (suc b) h = omega (arith, zero-mul n, suc-mul b n)
+one_more n (suc a) (suc b) h = omega (arith, suc-mul a n, suc-mul b n, one_more n a b (omega (arith, h, suc-mul a n, suc-mul b n)))
+
+-- a place a whole number of groups in, before the end of them, has a group after it
+pub room : (n i l : ℕ) → i % n ≡ 0 → l % n ≡ 0 → i < l → i + n ≤ l
+room n i l at-group whole before =
+    omega (arith, div-add-mod' i n, at-group, div-add-mod' l n, whole, one_more n (i / n) (l / n) (omega (arith, div-add-mod' i n, at-group, div-add-mod' l n, whole, before)))
 
 -- ---- group by group
 

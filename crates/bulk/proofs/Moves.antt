@@ -1,6 +1,6 @@
--- What the loop of each order leaves is what the definition by the order says; and what a move then leaves, vector by vector
--- and point by point. Assumes nothing.
-use mathlib.Core.Path.{◌≡◌, refl, ap, ◌∙◌}
+-- What a move leaves, vector by vector and point by point.
+-- Assumes nothing.
+use mathlib.Core.Path.{◌≡◌, refl, sym, ap}
 use mathlib.Core.List.{List, []}
 use Prim.Native.Nat.{ℕ, zero, suc, ◌*◌, ◌-◌, ◌/◌, ◌%◌, ◌<◌, ◌≤◌}
 use native.Mathlib.Nat.{zero-mod, sub-zero}
@@ -10,30 +10,11 @@ use lib.ListN.{length}
 use Rattle.vector.specs.Refusals.{Outcome, given, after, leaves}
 use Rattle.vector.specs.Vectors.{of_entries2, of_entries3, of_entries4}
 use Rattle.matrix.specs.Arithmetic.{mul_vector2, mul_vector3, mul_vector4}
-use Rattle.matrix.specs.declared.records.Matrix2.{Matrix2}
-use Rattle.matrix.specs.declared.records.Matrix3.{Matrix3}
-use Rattle.matrix.specs.declared.records.Matrix4.{Matrix4}
 use Rattle.bulk.specs.Groups.{group, each}
 use Rattle.bulk.specs.Moves.{flat2, flat3, flat4, vector_by2, vector_by3, vector_by4, point_by3, point_by4, move_point3, move_point4, move_vector, move_point, move_vectors, move_points}
 use Rattle.bulk.specs.Refusals.{lengths_of, move_fits}
 use Rattle.bulk.proofs.Checks.{fitting, order_taken, length_right}
 use Rattle.bulk.proofs.Groups.{of_each, long_each, none}
-
-module _ (order : ℕ) (m input output : List Float) where
-  pub vectors2 : (loaded : Matrix2) → order ≡ 2 → loaded ≡ flat2 m → output ≡ each 2 (vector_by2 loaded) input → output ≡ each order (move_vector order m) input
-  vectors2 loaded is same e = e ∙ rw (same, is)
-
-  pub vectors3 : (loaded : Matrix3) → order ≡ 3 → loaded ≡ flat3 m → output ≡ each 3 (vector_by3 loaded) input → output ≡ each order (move_vector order m) input
-  vectors3 loaded is same e = e ∙ rw (same, is)
-
-  pub vectors4 : (loaded : Matrix4) → order ≡ 4 → loaded ≡ flat4 m → output ≡ each 4 (vector_by4 loaded) input → output ≡ each order (move_vector order m) input
-  vectors4 loaded is same e = e ∙ rw (same, is)
-
-  pub points3 : (loaded : Matrix3) → order ≡ 3 → loaded ≡ flat3 m → output ≡ each 2 (point_by3 loaded) input → output ≡ each (order - 1) (move_point order m) input
-  points3 loaded is same e = e ∙ rw (same, is)
-
-  pub points4 : (loaded : Matrix4) → order ≡ 4 → loaded ≡ flat4 m → output ≡ each 3 (point_by4 loaded) input → output ≡ each (order - 1) (move_point order m) input
-  points4 loaded is same e = e ∙ rw (same, is)
 
 -- ---- group by group
 
@@ -65,7 +46,7 @@ module _ (order : ℕ) (m input output : List Float) where
   pub vector_at : move_fits 0 order (lengths_of m input output) ≡ given tt → (j : ℕ) → j < length input / order
       → group order j (leaves output (move_vectors order m input output)) ≡ move_vector order m (group order j input)
   vector_at e j below =
-      let f = fitting 0 order _ e in
+      let f = fitting 0 order _ (sym e) in
       rw (accepted (move_fits 0 order (lengths_of m input output)) output (each order (move_vector order m) input) e)
       (of_each order (move_vector order m) (λ g. vector_long order m g f.least f.most) input j below)
 
@@ -73,20 +54,20 @@ module _ (order : ℕ) (m input output : List Float) where
   pub point_at : move_fits 1 order (lengths_of m input output) ≡ given tt → (j : ℕ) → j < length input / (order - 1)
       → group (order - 1) j (leaves output (move_points order m input output)) ≡ move_point order m (group (order - 1) j input)
   point_at e j below =
-      let f = fitting 1 order _ e in
+      let f = fitting 1 order _ (sym e) in
       rw (accepted (move_fits 1 order (lengths_of m input output)) output (each (order - 1) (move_point order m) input) e)
       (of_each (order - 1) (move_point order m) (λ g. point_long order m g f.least f.most) input j below)
 
   -- there are no further numbers
   pub vectors_long : move_fits 0 order (lengths_of m input output) ≡ given tt → length (leaves output (move_vectors order m input output)) ≡ length input
   vectors_long e =
-      let f = fitting 0 order _ e in
+      let f = fitting 0 order _ (sym e) in
       rw (accepted (move_fits 0 order (lengths_of m input output)) output (each order (move_vector order m) input) e)
       (long_each order (move_vector order m) (λ g. vector_long order m g f.least f.most) input (rw sub-zero at f.whole))
 
   pub points_long : move_fits 1 order (lengths_of m input output) ≡ given tt → length (leaves output (move_points order m input output)) ≡ length input
   points_long e =
-      let f = fitting 1 order _ e in
+      let f = fitting 1 order _ (sym e) in
       rw (accepted (move_fits 1 order (lengths_of m input output)) output (each (order - 1) (move_point order m) input) e)
       (long_each (order - 1) (move_point order m) (λ g. point_long order m g f.least f.most) input f.whole)
 

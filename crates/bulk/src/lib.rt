@@ -2,12 +2,14 @@
 // Every outcome of the two entries, and the whole output, equals its definition in specs/; neither relies on its caller.
 #![tactic(auto)]
 
+mod each;
+mod flat;
 mod load;
 mod points;
 mod vectors;
 
 ghost use Rattle.std.specs.Prelude.{◌≡◌, ◌%◌, ◌≤◌};
-ghost use Rattle.vector.specs.Refusals.{outcome, done, leaves};
+ghost use Rattle.vector.specs.Refusals.{done, leaves, outcome};
 ghost use Rattle.bulk.specs.Refusals.{lengths, move_fits};
 ghost use Rattle.bulk.specs.Moves.{move_vectors, move_points};
 
@@ -29,7 +31,14 @@ fn left_over(input: usize, size: usize) -> usize
 }
 
 // Refusals 5, 3 and 4, the first that applies; vectors are as long as the order, points one number shorter.
-fn check(short: usize, order: usize, matrix: usize, input: usize, output: usize) -> Result<(), Refusal>
+#[tactic(auto, unfolding(crate::specs::Refusals::move_fits, crate::specs::Refusals::order_from, crate::specs::Refusals::number_is))]
+fn check(
+    short: usize,
+    order: usize,
+    matrix: usize,
+    input: usize,
+    output: usize,
+) -> Result<(), Refusal>
     requires { short ≤ 1 }
     ensures { outcome result ≡ move_fits short order (lengths matrix input output) }
 {
@@ -52,7 +61,12 @@ fn check(short: usize, order: usize, matrix: usize, input: usize, output: usize)
 }
 
 // The matrix, a flat slice of its columns, times every vector, into the output.
-pub fn move_vectors(order: usize, matrix: &[f64], vectors: &[f64], output: &mut [f64]) -> Result<(), Refusal>
+pub fn move_vectors(
+    order: usize,
+    matrix: &[f64],
+    vectors: &[f64],
+    output: &mut [f64],
+) -> Result<(), Refusal>
     ensures answers { outcome result ≡ done (move_vectors order matrix.now vectors.now output.old) }
     ensures writes { output.new ≡ leaves output.old (move_vectors order matrix.now vectors.now output.old) }
 {
@@ -62,7 +76,12 @@ pub fn move_vectors(order: usize, matrix: &[f64], vectors: &[f64], output: &mut 
 }
 
 // The matrix times every point extended by 1, without the last coordinate, into the output.
-pub fn move_points(order: usize, matrix: &[f64], points: &[f64], output: &mut [f64]) -> Result<(), Refusal>
+pub fn move_points(
+    order: usize,
+    matrix: &[f64],
+    points: &[f64],
+    output: &mut [f64],
+) -> Result<(), Refusal>
     ensures answers { outcome result ≡ done (move_points order matrix.now points.now output.old) }
     ensures writes { output.new ≡ leaves output.old (move_points order matrix.now points.now output.old) }
 {
