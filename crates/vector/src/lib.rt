@@ -6,6 +6,7 @@ pub mod refusal;
 pub mod space;
 
 ghost use Rattle.std.specs.Prelude.{◌≡◌, refl};
+ghost use Rattle.std.proofs.Common.{lit<};
 ghost use Rattle.vector.specs.Vectors.{vector2, vector3, vector4};
 ghost use Rattle.vector.specs.Vectors.{map2, map3, map4, zip2, zip3, zip4};
 ghost use Rattle.vector.specs.Vectors.{entries2, entries3, entries4, of_entries2, of_entries3, of_entries4};
@@ -76,6 +77,8 @@ impl Vector for Vector2 {
 
     const LENGTH: usize = 2;
 
+    ghost some = { lit< tt };
+
     ghost length_is = { λ v. refl };
 
     ghost there_and_back = { λ v. refl };
@@ -134,6 +137,8 @@ impl Vector for Vector3 {
     ghost dot = { dot3 };
 
     const LENGTH: usize = 3;
+
+    ghost some = { lit< tt };
 
     ghost length_is = { λ v. refl };
 
@@ -200,6 +205,8 @@ impl Vector for Vector4 {
     ghost dot = { dot4 };
 
     const LENGTH: usize = 4;
+
+    ghost some = { lit< tt };
 
     ghost length_is = { λ v. refl };
 

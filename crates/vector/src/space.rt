@@ -1,5 +1,5 @@
 // What vectors and matrices share, after the Rust's VectorSpace: each operation on the entries, said once for every order.
-ghost use Rattle.std.specs.Prelude.{◌≡◌, ℕ, List, length, replicate, Float};
+ghost use Rattle.std.specs.Prelude.{◌≡◌, ◌<◌, ℕ, List, length, replicate, Float};
 ghost use Rattle.std.specs.Float.Ieee.{neg};
 ghost use Rattle.vector.specs.Arithmetic.{◌⊕◌, ◌⊖◌, ◌⊗◌, ◌⊘◌, Computes, Computes₂};
 
@@ -89,6 +89,9 @@ pub trait Vector: VectorSpace {
     // The products entry by entry, summed.
     fn dot(self, other: Self) -> f64
         ensures { result ≡ dot self other };
+
+    // It has at least one.
+    ghost some: { 0 < LENGTH };
 
     // The entries are as many as LENGTH says, and give the vector back.
     ghost length_is: { (v : Self) → length (entries v) ≡ LENGTH };

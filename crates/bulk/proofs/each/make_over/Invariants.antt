@@ -5,9 +5,9 @@ use Rattle.bulk.proofs.each.make_over.Given as goal
 
 abbrev pub invariant-loop-i : goal.invariant-loop-i
 invariant-loop-i g l =
-    (l.i % g.V.Flat.LENGTH ≡ 0)
+    (l.i % g.V.Vector.LENGTH ≡ 0)
     × ((h : g.row.V.Denot → g.row.V.Denot) → ((v w : g.row.V.Denot) → g.F.Fn.post l.f (v, tt) w → w ≡ h v)
-    → SoFar g.V.Flat.LENGTH g.met.V.Flat.some (λ part. g.V.Flat.entries (h (g.V.Flat.of_entries part))) l.input l.output l.i)
+    → SoFar g.V.Vector.LENGTH g.met.V.Vector.some (λ part. g.V.Vector.entries (h (g.V.Vector.of_entries part))) l.input l.output l.i)
 
 abbrev pub decreases-loop-i : goal.decreases-loop-i
 decreases-loop-i g l = length l.input - l.i
