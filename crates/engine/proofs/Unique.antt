@@ -3,9 +3,15 @@
 use Rattle.std.proofs.Common.{sym, ◌∙◌}
 use Rattle.vector.proofs.Answers.{outcome_one}
 use Rattle.vector.proofs.Decided.{Decided, value, meaning}
+use Rattle.vector.specs.contracts.Vector2
+use Rattle.vector.specs.contracts.Vector3
+use Rattle.vector.specs.contracts.Vector4
 use Rattle.matrix.specs.contracts.records.Matrix2
 use Rattle.matrix.specs.contracts.records.Matrix3
 use Rattle.matrix.specs.contracts.records.Matrix4
+use Rattle.matrix.specs.contracts.square.Matrix2SquareMatrix.TheImpl as matrix2
+use Rattle.matrix.specs.contracts.square.Matrix3SquareMatrix.TheImpl as matrix3
+use Rattle.matrix.specs.contracts.square.Matrix4SquareMatrix.TheImpl as matrix4
 use Rattle.engine.specs.contracts.square.Matrix2Square.TheImpl as square2
 use Rattle.engine.specs.contracts.square.Matrix3Square.TheImpl as square3
 use Rattle.engine.specs.contracts.square.Matrix4Square.TheImpl as square4
@@ -16,29 +22,29 @@ use Rattle.engine.proofs.sum
 use Rattle.engine.proofs.verdict
 use Rattle.engine.proofs.cofactors
 
-pub signed_sum_lem : (T L C S d K e : _) → Decided (sum.signed_sum.Reads.Learnt T L C S d K e)
-signed_sum_lem T L C S d K e = meaning outcome_one
+pub signed_sum_lem : (T U L M C D S d Q e V f K g W h X i Y j : _) → Decided (sum.signed_sum.Reads.Learnt T U L M C D S d Q e V f K g W h X i Y j)
+signed_sum_lem T U L M C D S d Q e V f K g W h X i Y j = meaning outcome_one
 
-pub signed_sum2_lem : (L C d K e : _) → Decided (sum.signed_sum.Reads.Learnt Matrix2.the_row L C square2.ghosts d K e)
-signed_sum2_lem L C d K e = meaning outcome_one
+pub signed_sum2_lem : (L M C D d e V f K g W h X i Y j : _) → Decided (sum.signed_sum.Reads.Learnt Matrix2.the_row Vector2.the_row L M C D square2.ghosts d matrix2.ghosts e V f K g W h X i Y j)
+signed_sum2_lem L M C D d e V f K g W h X i Y j = meaning outcome_one
 
-pub signed_sum3 : (L C d K e : _) → Decided (sum.signed_sum.Reads.Learnt Matrix3.the_row L C square3.ghosts d K e)
-signed_sum3 L C d K e = meaning outcome_one
+pub signed_sum3 : (L M C D d e V f K g W h X i Y j : _) → Decided (sum.signed_sum.Reads.Learnt Matrix3.the_row Vector3.the_row L M C D square3.ghosts d matrix3.ghosts e V f K g W h X i Y j)
+signed_sum3 L M C D d e V f K g W h X i Y j = meaning outcome_one
 
-pub signed_sum4 : (L C d K e : _) → Decided (sum.signed_sum.Reads.Learnt Matrix4.the_row L C square4.ghosts d K e)
-signed_sum4 L C d K e = meaning outcome_one
+pub signed_sum4 : (L M C D d e V f K g W h X i Y j : _) → Decided (sum.signed_sum.Reads.Learnt Matrix4.the_row Vector4.the_row L M C D square4.ghosts d matrix4.ghosts e V f K g W h X i Y j)
+signed_sum4 L M C D d e V f K g W h X i Y j = meaning outcome_one
 
-pub undoable : (T L C S d K e : _) → Decided (verdict.undoable.Reads.Learnt T L C S d K e)
-undoable T L C S d K e = meaning outcome_one
+pub undoable : (T U L M C D S d Q e V f K g W h X i Y j : _) → Decided (verdict.undoable.Reads.Learnt T U L M C D S d Q e V f K g W h X i Y j)
+undoable T U L M C D S d Q e V f K g W h X i Y j = meaning outcome_one
 
-pub undoable2 : (L C d K e : _) → Decided (verdict.undoable.Reads.Learnt Matrix2.the_row L C square2.ghosts d K e)
-undoable2 L C d K e = meaning outcome_one
+pub undoable2 : (L M C D d e V f K g W h X i Y j : _) → Decided (verdict.undoable.Reads.Learnt Matrix2.the_row Vector2.the_row L M C D square2.ghosts d matrix2.ghosts e V f K g W h X i Y j)
+undoable2 L M C D d e V f K g W h X i Y j = meaning outcome_one
 
-pub undoable3 : (L C d K e : _) → Decided (verdict.undoable.Reads.Learnt Matrix3.the_row L C square3.ghosts d K e)
-undoable3 L C d K e = meaning outcome_one
+pub undoable3 : (L M C D d e V f K g W h X i Y j : _) → Decided (verdict.undoable.Reads.Learnt Matrix3.the_row Vector3.the_row L M C D square3.ghosts d matrix3.ghosts e V f K g W h X i Y j)
+undoable3 L M C D d e V f K g W h X i Y j = meaning outcome_one
 
-pub undoable4 : (L C d K e : _) → Decided (verdict.undoable.Reads.Learnt Matrix4.the_row L C square4.ghosts d K e)
-undoable4 L C d K e = meaning outcome_one
+pub undoable4 : (L M C D d e V f K g W h X i Y j : _) → Decided (verdict.undoable.Reads.Learnt Matrix4.the_row Vector4.the_row L M C D square4.ghosts d matrix4.ghosts e V f K g W h X i Y j)
+undoable4 L M C D d e V f K g W h X i Y j = meaning outcome_one
 
 pub one_bit : Decided verdict.one_bit.Reads.Learnt
 one_bit = value
@@ -46,17 +52,17 @@ one_bit = value
 pub magnitude : Decided verdict.magnitude.Reads.Learnt
 magnitude = value
 
-pub cofactor : (T L C S d K e : _) → Decided (cofactors.cofactor.Reads.Learnt T L C S d K e)
-cofactor T L C S d K e = meaning outcome_one
+pub cofactor : (T U L M C D S d Q e V f K g W h X i Y j : _) → Decided (cofactors.cofactor.Reads.Learnt T U L M C D S d Q e V f K g W h X i Y j)
+cofactor T U L M C D S d Q e V f K g W h X i Y j = meaning outcome_one
 
-pub cofactor2 : (L C d K e : _) → Decided (cofactors.cofactor.Reads.Learnt Matrix2.the_row L C square2.ghosts d K e)
-cofactor2 L C d K e = meaning outcome_one
+pub cofactor2 : (L M C D d e V f K g W h X i Y j : _) → Decided (cofactors.cofactor.Reads.Learnt Matrix2.the_row Vector2.the_row L M C D square2.ghosts d matrix2.ghosts e V f K g W h X i Y j)
+cofactor2 L M C D d e V f K g W h X i Y j = meaning outcome_one
 
-pub cofactor3 : (L C d K e : _) → Decided (cofactors.cofactor.Reads.Learnt Matrix3.the_row L C square3.ghosts d K e)
-cofactor3 L C d K e = meaning outcome_one
+pub cofactor3 : (L M C D d e V f K g W h X i Y j : _) → Decided (cofactors.cofactor.Reads.Learnt Matrix3.the_row Vector3.the_row L M C D square3.ghosts d matrix3.ghosts e V f K g W h X i Y j)
+cofactor3 L M C D d e V f K g W h X i Y j = meaning outcome_one
 
-pub cofactor4 : (L C d K e : _) → Decided (cofactors.cofactor.Reads.Learnt Matrix4.the_row L C square4.ghosts d K e)
-cofactor4 L C d K e = meaning outcome_one
+pub cofactor4 : (L M C D d e V f K g W h X i Y j : _) → Decided (cofactors.cofactor.Reads.Learnt Matrix4.the_row Vector4.the_row L M C D square4.ghosts d matrix4.ghosts e V f K g W h X i Y j)
+cofactor4 L M C D d e V f K g W h X i Y j = meaning outcome_one
 
 -- ---- square.rt, at each record
 
@@ -68,12 +74,3 @@ matrix3_cornered = record { decided = λ κ a x y s t p q. p.0 ∙ sym q.0 }
 
 pub matrix4_cornered : Decided Matrix4Square.cornered.Reads.Learnt
 matrix4_cornered = record { decided = λ κ a x y s t p q. p.0 ∙ sym q.0 }
-
-pub matrix2_order : Decided Matrix2Square.ORDER.Reads.Learnt
-matrix2_order = value
-
-pub matrix3_order : Decided Matrix3Square.ORDER.Reads.Learnt
-matrix3_order = value
-
-pub matrix4_order : Decided Matrix4Square.ORDER.Reads.Learnt
-matrix4_order = value

@@ -2,6 +2,7 @@
 // They are given one by one, since an answer holds no array; the place is tested first.
 ghost use Rattle.std.specs.Prelude.{◌≡◌, ◌-◌, ◌<◌};
 ghost use Rattle.vector.specs.Refusals.{outcome};
+ghost use Rattle.matrix.specs.Places.{at};
 ghost use Rattle.whole.specs.Order.{skip};
 ghost use Rattle.engine.specs.Whole.{wholes, Alike, without, minor};
 ghost use Rattle.engine.specs.Engine.{cofactor_of, cofactor};
@@ -13,7 +14,7 @@ use vector::{Place, Refusal};
 
 // The cofactor of a place: refusal 11 or 12, first, for the place, then refusal 6.
 pub fn cofactor<M: Square>(m: M, c: Column, r: Row) -> Result<i64, Refusal>
-    ensures { outcome result ≡ cofactor 1024 M.ORDER (M.floats m) c r }
+    ensures { outcome result ≡ cofactor 1024 M.ORDER (at (M.array m)) c r }
 {
     if M::ORDER <= c.0 {
         return Err(Refusal::Column(Place::First));

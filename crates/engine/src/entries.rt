@@ -1,6 +1,7 @@
 // The whole-number test, and the whole numbers that it finds.
 ghost use Rattle.std.specs.Prelude.{◌≡◌, ◌≤◌, map};
 ghost use Rattle.vector.specs.Vectors.{entry, entries4};
+ghost use Rattle.matrix.specs.Places.{at};
 ghost use Rattle.matrix.specs.Records.{array4};
 ghost use Rattle.engine.specs.Whole.{whole_number, is_whole, all_below, whole_entries, floats4, wholes, Small, Tested};
 
@@ -23,7 +24,7 @@ impl Whole {
     // The whole numbers of the matrix, or refusal 6.
     #[tactic(auto, using(crate::proofs::Outcomes::array_numbers))]
     pub(crate) fn read<M: Square>(m: M) -> Result<Whole, Refusal>
-        ensures { Reads M.ORDER (M.floats m) result }
+        ensures { Reads M.ORDER (at (M.array m)) result }
     {
         let numbers = matrix_numbers(m.cornered())?;
         Ok(Whole {

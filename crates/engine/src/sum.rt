@@ -1,6 +1,7 @@
 // The signed sum over the column orders: one loop over the table serves orders 2, 3 and 4, and the minors of order 1.
 ghost use Rattle.std.specs.Prelude.{◌≡◌, take};
 ghost use Rattle.vector.specs.Refusals.{outcome};
+ghost use Rattle.matrix.specs.Places.{at};
 ghost use Rattle.whole.specs.Order.{Order, down_rows, exact_signed_sum};
 ghost use Rattle.engine.specs.Whole.{wholes};
 ghost use Rattle.engine.specs.Engine.{signed_sum};
@@ -13,7 +14,7 @@ use vector::Refusal;
 // The signed sum, or refusal 6.
 #[tactic(auto, using(crate::proofs::Outcomes::same_sum), unfolding(crate::specs::Engine::taken))]
 pub fn signed_sum<M: Square>(m: M) -> Result<i64, Refusal>
-    ensures { outcome result ≡ signed_sum 1024 M.ORDER (M.floats m) }
+    ensures { outcome result ≡ signed_sum 1024 M.ORDER (at (M.array m)) }
 {
     Ok(Whole::read(m)?.signed_sum())
 }

@@ -1,6 +1,7 @@
 // Whether the signed sum is undoable: its magnitude has exactly one bit set.
 ghost use Rattle.std.specs.Prelude.{◌≡◌, unsigned_abs};
 ghost use Rattle.vector.specs.Refusals.{outcome};
+ghost use Rattle.matrix.specs.Places.{at};
 ghost use Rattle.engine.specs.Engine.{undoable, is_one_bit};
 
 use crate::square::Square;
@@ -9,7 +10,7 @@ use vector::Refusal;
 
 // Whether the signed sum is undoable, or refusal 6.
 pub fn undoable<M: Square>(m: M) -> Result<bool, Refusal>
-    ensures { outcome result ≡ undoable 1024 M.ORDER (M.floats m) }
+    ensures { outcome result ≡ undoable 1024 M.ORDER (at (M.array m)) }
 {
     Ok(one_bit(magnitude(sum::signed_sum(m)?)))
 }

@@ -1,28 +1,29 @@
 -- The engine's answers about the floats of small whole numbers are the sums and cofactors of the numbers themselves, at every order.
 -- Assumes nothing.
-use Rattle.std.proofs.Common.{◌≡◌, ℕ, suc, ◌+◌, ◌*◌, ◌^◌, ◌<◌, ◌≤◌, List, ℤ, sym, refl, ◌∙◌, subst, le_trans, lt_of_le_of_lt, mul-le-mul_right, suc-mul, arith, lit<, w64, to_z, of_z}
+use Rattle.std.proofs.Common.{◌≡◌, ℕ, zero, suc, ◌+◌, ◌-◌, ◌*◌, ◌^◌, ◌<◌, ◌≤◌, List, [], map, get_or, ℤ, sym, ap, ◌∙◌, subst, inl, inr, eq-zero-or-pos, le_trans, lt_of_le_of_lt, mul-le-mul_right, suc-mul, arith, lit<, w64, to_z, of_z}
+use denote.Param.Members.{Mut}
+use Rattle.std.specs.List.{range_with_len}
+use Rattle.std.specs.Fn.{Called}
+use Rattle.std.specs.Array.{IsFromFnResultFrom, IsFromFnResult}
 use lib.Signed.{mag}
-use lib.Ieee.{Float, binary64}
+use lib.Ieee.{Float, binary64, nan}
+use Rattle.std.proofs.lemmas.List.FromFn.{get_or-map-range_with_len, fill_by_all}
 use Rattle.vector.specs.Refusals.{Outcome, given}
-use Rattle.vector.specs.Vectors.{vector2, vector3, vector4}
+use Rattle.vector.specs.Vectors.{entry}
 use Rattle.vector.proofs.Checks.{within}
-use Rattle.matrix.specs.Records.{matrix2, matrix3, matrix4}
+use Rattle.matrix.specs.Places.{at}
 use Rattle.matrix.specs.declared.places.Column.{Column}
 use Rattle.matrix.specs.declared.places.Row.{Row}
-use Rattle.matrix.specs.declared.records.Matrix2.{Matrix2}
-use Rattle.matrix.specs.declared.records.Matrix3.{Matrix3}
-use Rattle.matrix.specs.declared.records.Matrix4.{Matrix4}
 use Rattle.whole.specs.Order.{exact_signed_sum}
-use Rattle.engine.specs.Whole.{Floats, whole_entries, numbers, floats2, floats3, floats4}
+use Rattle.engine.specs.Whole.{Floats, whole_entries, numbers}
 use Rattle.engine.specs.Engine.{taken, cofactor_of, signed_sum, cofactor}
 use Rattle.engine.proofs.Signed.{back}
-use Rattle.engine.proofs.Places.{below_two, below_three, below_four}
 use Rattle.engine.proofs.Outcomes.{taken_yes, cofactor_ext}
 use Rattle.engine.proofs.Readings.{Holds}
 use Rattle.engine.proofs.General.{passes_true}
 use Rattle.engine.proofs.Numbers.{taken_held, numbers_held, sum_held}
 use Rattle.exact.proofs.Known.{Known, known_within, known_integer}
-use Rattle.report.specs.Entries.{columns, SmallList, float_at, AsFloats, number_in}
+use Rattle.report.specs.Entries.{columns, SmallList, float_at, floats_from, array_of, AsFloats, number_in}
 
 -- ---- the list
 
@@ -38,55 +39,28 @@ place n c r h l = omega (arith, mul-le-mul_right {m = suc c} {n = n} n h, suc-mu
 pub room : (n : ℕ) → n ≤ 4 → n * n ≤ 16
 room n h = le_trans (mul-le-mul_right {m = n} {n = 4} n h) (omega arith)
 
--- ---- the records
+-- ---- the arrays
 
-module _ (list : List ℤ) where
-  -- the records of the list's floats
-  abbrev pub record2 : Matrix2
-  record2 = matrix2 (vector2 (float_at list 0) (float_at list 1)) (vector2 (float_at list 2) (float_at list 3))
+-- what a closure that stays as it is gives of each number is the array
+module _ {F B : Type 0} (g : Mut F (ℕ × Unit {0}) B) (f : F) (h : ℕ → B) (past : B) (call : (i : ℕ) (y : B) (q : F) → Called g f (i, tt) y q → (y ≡ h i) × (q ≡ f)) (ys : List B) where
+  made_from : (n j i : ℕ) → IsFromFnResultFrom g f ys j n → j ≤ i → i < j + n → get_or ys i past ≡ h i
+  made_from zero j i made low high = absurd (omega arith)
+  made_from (suc n) j i made low high =
+      let one = call j made.1 made.0 made.3 in
+      elim (eq-zero-or-pos (i - j)) [
+        | inl none ↦ subst (λ k. get_or ys k past ≡ h k) (omega (arith, none, low)) (made.2.1 past ∙ one.0)
+        | inr some ↦ made_from n (j + 1) i (subst (λ (q : F). IsFromFnResultFrom g q ys (j + 1) n) one.1 made.4) (omega (arith, some)) (omega (arith, high))
+      ]
 
-  abbrev pub record3 : Matrix3
-  record3 =
-      matrix3 (vector3 (float_at list 0) (float_at list 1) (float_at list 2)) (vector3 (float_at list 3) (float_at list 4) (float_at list 5))
-      (vector3 (float_at list 6) (float_at list 7) (float_at list 8))
+  pub made_is : (n : ℕ) → IsFromFnResult g f ys n → ys ≡ map h (range_with_len 0 n)
+  made_is n made = fill_by_all h ys n past made.long (λ i below. made_from n 0 i made.each (omega arith) (omega arith))
 
-  abbrev pub record4 : Matrix4
-  record4 =
-      matrix4 (vector4 (float_at list 0) (float_at list 1) (float_at list 2) (float_at list 3)) (vector4 (float_at list 4) (float_at list 5) (float_at list 6) (float_at list 7))
-      (vector4 (float_at list 8) (float_at list 9) (float_at list 10) (float_at list 11)) (vector4 (float_at list 12) (float_at list 13) (float_at list 14) (float_at list 15))
-
-  pub as_floats2 : (m : Matrix2) → m ≡ record2 → AsFloats 2 list (floats2 m)
-  as_floats2 m is =
-      subst (λ (m : Matrix2). AsFloats 2 list (floats2 m)) (sym is)
-      (record {
-        each = λ c r h l. below_two (λ c. floats2 record2 c r ≡ float_at list (c * 2 + r))
-            (below_two (λ r. floats2 record2 0 r ≡ float_at list (0 * 2 + r)) refl refl r l)
-            (below_two (λ r. floats2 record2 1 r ≡ float_at list (1 * 2 + r)) refl refl r l)
-            c h;
-      })
-
-  pub as_floats3 : (m : Matrix3) → m ≡ record3 → AsFloats 3 list (floats3 m)
-  as_floats3 m is =
-      subst (λ (m : Matrix3). AsFloats 3 list (floats3 m)) (sym is)
-      (record {
-        each = λ c r h l. below_three (λ c. floats3 record3 c r ≡ float_at list (c * 3 + r))
-            (below_three (λ r. floats3 record3 0 r ≡ float_at list (0 * 3 + r)) refl refl refl r l)
-            (below_three (λ r. floats3 record3 1 r ≡ float_at list (1 * 3 + r)) refl refl refl r l)
-            (below_three (λ r. floats3 record3 2 r ≡ float_at list (2 * 3 + r)) refl refl refl r l)
-            c h;
-      })
-
-  pub as_floats4 : (m : Matrix4) → m ≡ record4 → AsFloats 4 list (floats4 m)
-  as_floats4 m is =
-      subst (λ (m : Matrix4). AsFloats 4 list (floats4 m)) (sym is)
-      (record {
-        each = λ c r h l. below_four (λ c. floats4 record4 c r ≡ float_at list (c * 4 + r))
-            (below_four (λ r. floats4 record4 0 r ≡ float_at list (0 * 4 + r)) refl refl refl refl r l)
-            (below_four (λ r. floats4 record4 1 r ≡ float_at list (1 * 4 + r)) refl refl refl refl r l)
-            (below_four (λ r. floats4 record4 2 r ≡ float_at list (2 * 4 + r)) refl refl refl refl r l)
-            (below_four (λ r. floats4 record4 3 r ≡ float_at list (3 * 4 + r)) refl refl refl refl r l)
-            c h;
-      })
+-- the entries of the array of the list are the list's floats
+pub as_floats : (n : ℕ) (list : List ℤ) → AsFloats n list (at (array_of n list))
+as_floats n list = record {
+  each = λ c r h l. ap (λ (v : List Float). entry v r) (get_or-map-range_with_len (λ c. floats_from (c * n) n list) 0 n c c [] h (omega arith))
+      ∙ get_or-map-range_with_len (λ r. float_at list (c * n + r)) 0 n r r nan l (omega arith);
+}
 
 -- ---- the numbers
 

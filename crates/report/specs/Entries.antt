@@ -1,6 +1,7 @@
 -- A matrix whose entries stand in a list, column by column, and its entries as floats.
 -- Assumes nothing.
-use Rattle.std.specs.Prelude.{◌≡◌, ℕ, ◌+◌, ◌*◌, ◌<◌, ◌≤◌, List, ℤ, pos, slice_index_or, unsigned_abs, Float}
+use Rattle.std.specs.Prelude.{◌≡◌, ℕ, ◌+◌, ◌*◌, ◌<◌, ◌≤◌, List, map, ℤ, pos, slice_index_or, unsigned_abs, Float}
+use Rattle.std.specs.List.{range_with_len}
 use Rattle.std.specs.Float.{binary64}
 use Rattle.std.specs.Float.Ieee.{of_int}
 use Rattle.vector.specs.Refusals.{Outcome, given, refused}
@@ -24,6 +25,14 @@ pub record Square (n : ℕ) (list : List ℤ) : Type 0 where
 -- the float of the number at a place
 abbrev pub float_at : List ℤ → ℕ → Float
 float_at list i = of_int binary64 (slice_index_or list i (pos 0))
+
+-- the floats of n numbers from place i on
+abbrev pub floats_from : (i n : ℕ) → List ℤ → List Float
+floats_from i n list = map (λ r. float_at list (i + r)) (range_with_len 0 n)
+
+-- the floats of the first numbers, in n columns of n
+abbrev pub array_of : ℕ → List ℤ → List (List Float)
+array_of n list = map (λ c. floats_from (c * n) n list) (range_with_len 0 n)
 
 -- the entries are the floats of the matrix's numbers
 pub record AsFloats (n : ℕ) (list : List ℤ) (e : Floats) : Type 0 where

@@ -1,5 +1,5 @@
 -- The column, the row and the entries are tested in this order. Assumes nothing.
-use Rattle.std.proofs.Common.{rules, ap}
+use Rattle.std.proofs.Common.{rules, ap, le_trans, arith}
 use Rattle.vector.specs.Refusals.{given}
 use Rattle.vector.proofs.Checks.{within, outside}
 use Rattle.engine.proofs.Outcomes.{taken_yes, taken_no, cofactor_ext}
@@ -20,4 +20,4 @@ returns g c =
     let w = c.in_ok-read.ensures in
     let h = rw c.ORDER.ensures at c.if-ORDER-c.false in
     let l = rw c.ORDER-2.ensures at c.if-ORDER-r.false in
-    rw (within _ _ c.args.c.0 h, within _ _ c.args.r.0 l, taken_yes 1024 _ _ w.0, back _ c.cofactor.type_inv, c.cofactor.ensures, w.1) (ap given (cofactor_ext _ g.met.M.Square.few.0 _ _ w.2 c.args.c.0 c.args.r.0 h l))
+    rw (within _ _ c.args.c.0 h, within _ _ c.args.r.0 l, taken_yes 1024 _ _ w.0, back _ c.cofactor.type_inv, c.cofactor.ensures, w.1) (ap given (cofactor_ext _ (le_trans (omega arith) g.met.M.SquareMatrix.at_least) _ _ w.2 c.args.c.0 c.args.r.0 h l))
