@@ -4,11 +4,6 @@ use component::{Component, ComponentAnswer};
 use std::io;
 use vector::Vector3;
 
-// The name of the record.
-pub(crate) fn name(rt: &impl Print, text: &[u8]) -> io::Result<()> {
-    rt.write_all(text)
-}
-
 // What it gives.
 pub(crate) fn answer(rt: &impl Print, found: ComponentAnswer) -> io::Result<()> {
     match found {
