@@ -1,55 +1,47 @@
 // The operations of vectors, by their numbers.
-use crate::answer::Answer;
-use crate::table::{
-    VECTOR_ADD, VECTOR_CROSS, VECTOR_DIV_SCALAR, VECTOR_DOT, VECTOR_SCALAR_MUL, VECTOR_SUB,
-    VECTOR_TRUNCATE_N,
-};
-use crate::words::{ROOM, number_at, place_at, vector2_at, vector3_at, vector4_at};
+use crate::answer::{Answer, given, of_vector3};
+use crate::table::Operation;
+use crate::words::Words;
+use vector::{Vector2, Vector3, Vector4};
 
 // An operation of vectors of two numbers.
-pub(crate) fn order2(operation: usize, words: &[u64; ROOM]) -> Answer {
-    let v = vector2_at(words, 0);
-    let other = vector2_at(words, 2);
-    let scalar = number_at(words, 2);
+pub(crate) fn order2(operation: Operation, mut words: Words<'_>) -> Option<Answer> {
+    let v: Vector2 = words.read();
     let result = match operation {
-        VECTOR_ADD => v.add(other),
-        VECTOR_SUB => v.sub(other),
-        VECTOR_SCALAR_MUL => v.scalar_mul(scalar),
-        VECTOR_DOT => return Answer::number(v.dot(other)),
-        _ => return Answer::unknown(),
+        Operation::VectorAdd => v.add(words.read()),
+        Operation::VectorSub => v.sub(words.read()),
+        Operation::VectorScalarMul => v.scalar_mul(words.read()),
+        Operation::VectorDot => return given(v.dot(words.read())),
+        _ => return None,
     };
-    Answer::vector2(result)
+    given(result)
 }
 
 // An operation of vectors of three numbers.
-pub(crate) fn order3(operation: usize, words: &[u64; ROOM]) -> Answer {
-    let v = vector3_at(words, 0);
-    let other = vector3_at(words, 3);
-    let scalar = number_at(words, 3);
+pub(crate) fn order3(operation: Operation, mut words: Words<'_>) -> Option<Answer> {
+    let v: Vector3 = words.read();
     let result = match operation {
-        VECTOR_ADD => v.add(other),
-        VECTOR_SUB => v.sub(other),
-        VECTOR_SCALAR_MUL => v.scalar_mul(scalar),
-        VECTOR_DIV_SCALAR => v.div_scalar(scalar),
-        VECTOR_CROSS => v.cross(other),
-        VECTOR_DOT => return Answer::number(v.dot(other)),
-        _ => return Answer::unknown(),
+        Operation::VectorAdd => v.add(words.read()),
+        Operation::VectorSub => v.sub(words.read()),
+        Operation::VectorScalarMul => v.scalar_mul(words.read()),
+        Operation::VectorDivScalar => v.div_scalar(words.read()),
+        Operation::VectorCross => v.cross(words.read()),
+        Operation::VectorDot => return given(v.dot(words.read())),
+        _ => return None,
     };
-    Answer::vector3(result)
+    given(result)
 }
 
 // An operation of vectors of four numbers.
-pub(crate) fn order4(operation: usize, words: &[u64; ROOM]) -> Answer {
-    let v = vector4_at(words, 0);
-    let other = vector4_at(words, 4);
-    let scalar = number_at(words, 4);
+pub(crate) fn order4(operation: Operation, mut words: Words<'_>) -> Option<Answer> {
+    let v: Vector4 = words.read();
     let result = match operation {
-        VECTOR_ADD => v.add(other),
-        VECTOR_SUB => v.sub(other),
-        VECTOR_SCALAR_MUL => v.scalar_mul(scalar),
-        VECTOR_DOT => return Answer::number(v.dot(other)),
-        VECTOR_TRUNCATE_N => return Answer::of_vector3(v.truncate_n(place_at(words, 4))),
-        _ => return Answer::unknown(),
+        Operation::VectorAdd => v.add(words.read()),
+        Operation::VectorSub => v.sub(words.read()),
+        Operation::VectorScalarMul => v.scalar_mul(words.read()),
+        Operation::VectorDot => return given(v.dot(words.read())),
+        Operation::VectorTruncateN => return of_vector3(v.truncate_n(words.read())),
+        _ => return None,
     };
-    Answer::vector4(result)
+    given(result)
 }
