@@ -5,9 +5,9 @@ Usage: tools/unique.py [-q]
 
 The lines stand in proofs/Unique.antt of each library crate, and the gate proves them. A line has the name of its
 function, behind its type's where it is a method, as `matrix2_order`; where a definition has that name, the line has
-`_lem` at its end, as `move_vectors_lem`. This script checks that none is missing. It fails where a public function has
+`_lem` at its end, as `move_vectors_lem`. The methods and the constants of a public trait have a line for each record. This script checks that none is missing. It fails where a public function has
 no line, or a line that speaks of another promise; where parameters are lent by `&mut` and the line leaves one of them
-out; where a public function has a `requires`; where it can't read a public function; and where it finds none at all, or no
+out; where a public function has a `requires`, other than that its closure may be called; where it can't read a public function; and where it finds none at all, or no
 export.
 
 The exports stand for themselves: a static library's crate NAME_c is held to the library NAME word for word. It fails
@@ -18,10 +18,17 @@ import os
 import re
 import sys
 
-WORDS = ["Decided", "DecidedLent"]
+WORDS = ["Decided", "DecidedLent", "DecidedWhere"]
 PUBLIC = re.compile(r"\bpub\s+(?:extern\s+\"\"\s+)?fn\s+(\w+)\s*(?:<[^>]*>\s*)?\(")
 CLAUSE = re.compile(r"\s*(requires|ensures)\b[^{]*\{")
 RESULT = re.compile(r"[^{]*?(?=\b(?:requires|ensures)\b|\{)")
+# a method of a trait, and the parameters of its closure, if it takes one
+METHOD = re.compile(r"\bfn\s+(\w+)\s*(?:<F: Fn\(([^()]*)\)(?:->|[^<>])*>)?\(")
+# what a line says of a closure that takes one number or two: it computes a function
+COMPUTES = {
+    1: "(λ κ a. (f : Float → Float) × Computes (λ x r. F.post a.1.0 (x, tt) r) f)",
+    2: "(λ κ a. (f : Float → Float → Float) × Computes₂ (λ x y r. F.post a.1.1.0 (x, (y, tt)) r) f)",
+}
 
 
 def read(path):
@@ -110,6 +117,45 @@ def functions(crate):
             yield path, place, line, taken, "requires" in clauses
 
 
+def traits(crates):
+    """Each public trait: its methods and constants by name, with how many numbers the closure takes, or 0, and whether it asks more than that the closure may be called."""
+    found = {}
+    for path in (p for crate in crates for p in sorted(glob.glob(f"crates/{crate}/src/**/*.rt", recursive=True))):
+        text = code(path)
+        for trait in re.finditer(r"\bpub trait (\w+)[^{]*\{", text):
+            body = text[trait.end() : closing(text, trait.end()) - 1]
+            heads = list(METHOD.finditer(body))
+            if [m.group(1) for m in heads] != re.findall(r"\bfn\s+(\w+)", body):
+                sys.exit(f"{path}: can't read {trait.group(1)}")
+            found[trait.group(1)] = methods = {}
+            for m in heads:
+                end = closing(body, m.end())
+                at, clauses = re.compile(r"[^{;]*?(?=\b(?:requires|ensures)\b|[{;])").match(body, end).end(), []
+                while c := CLAUSE.match(body, at):
+                    at = closing(body, c.end())
+                    clauses.append((c.group(1), body[c.end() : at - 1].strip()))
+                asked = [text for word, text in clauses if word == "requires"]
+                if all(word == "requires" for word, _ in clauses) or "&mut" in body[m.end() : end].replace(" ", ""):
+                    sys.exit(f"{path}: can't read {m.group(1)}")
+                taken = len(parameters(m.group(2) or ""))
+                methods[m.group(1)] = (taken, asked != ["F.IsAlwaysCallable f"] * bool(taken))
+            # a constant promises what its ghost says
+            for name in re.findall(r"\bconst (\w+):", body):
+                if not re.search(rf"\bghost {name}:", body):
+                    sys.exit(f"{path}: {name} of {trait.group(1)} has no ghost")
+                methods[name] = (0, False)
+    return found
+
+
+def implemented(crate, methods):
+    """Each method and constant of a public trait at each record that has it: its place under proofs/, the name of its line, and what the trait says of it."""
+    for path in sorted(glob.glob(f"crates/{crate}/src/**/*.rt", recursive=True)):
+        module = [] if path.endswith("src/lib.rt") else path[len(f"crates/{crate}/src/") : -3].split("/")
+        for trait, record in re.findall(r"\bimpl (\w+) for (\w+)", code(path)):
+            for name, said in methods.get(trait, {}).items():
+                yield path, [*module, record + trait, name], f"{record}_{name}".lower(), said
+
+
 def lines(crate):
     """Each line of proofs/Unique.antt by its name: the word, and the rest of its type with every name written out."""
     found = {}
@@ -124,7 +170,8 @@ def lines(crate):
                 names[other or full.split(".")[-1]] = full
         for name, type_ in re.findall(r"^pub (\w+) : (.*(?:\n[ ]+.*)*)", text, re.M):
             # the type of what is lent, which the checker wants to be told where there are two
-            word, *rest = re.split(r"\s+", re.sub(r"\{L = [^{}]*\}\s+", "", type_))
+            # and before it what a closure brings
+            word, *rest = re.split(r"\s+", re.sub(r"^(?:\([^()]* : _\)\s+)+→\s+|\{L = [^{}]*\}\s+", "", type_))
             if word in WORDS:
                 spelt = [re.sub(r"^(\(?)([^\s.()]+)(?=[.])", lambda m: m.group(1) + names.get(m.group(2), m.group(2)), r) for r in rest]
                 found[name] = (names.get(word, word), " ".join(spelt))
@@ -141,13 +188,24 @@ def wanted(crate, place, taken):
     return ("Rattle.vector.proofs.Decided.DecidedLent", f"{promise} {at_exit}")
 
 
+def wanted_at(crate, place, taken):
+    """The same of a method of a trait; where it takes a closure, of one that computes a function."""
+    promise = f"Rattle.{crate}.proofs.{'.'.join(place)}.Reads.Learnt"
+    if not taken:
+        return ("Rattle.vector.proofs.Decided.Decided", promise)
+    return ("Rattle.vector.proofs.Decided.DecidedWhere", f"{COMPUTES[taken]} ({promise} T L C F d1 d2 d3 K d4)")
+
+
 def main():
     of_libraries, of_exports = libraries()
+    of_traits = traits(of_libraries)
     bad, total = [fault for crate in of_exports for fault in unlike(crate)], 0
     exports = sum(len(promised(crate)) for crate in of_exports)
     for crate in of_libraries:
         said, known = lines(crate), set()
-        for path, place, line, taken, requires in functions(crate):
+        listed = [(path, place, line, wanted(crate, place, taken), requires) for path, place, line, taken, requires in functions(crate)]
+        listed += [(path, place, line, wanted_at(crate, place, taken), asks) for path, place, line, (taken, asks) in implemented(crate, of_traits)]
+        for path, place, line, want, requires in listed:
             total += 1
             # a definition of that name can stand in the way
             if line not in said and line + "_lem" in said:
@@ -159,7 +217,7 @@ def main():
                 bad.append(f"{path}: {place[-1]} has a `requires`")
             if line not in said:
                 bad.append(f"{path}: {place[-1]} has no line {line} in proofs/Unique.antt")
-            elif said[line] != wanted(crate, place, taken):
+            elif said[line] != want:
                 bad.append(f"{path}: the line {line} says another thing: {' '.join(said[line])}")
         bad += [f"{crate}: the line {line} is of no public function" for line in said if line not in known]
     for line in bad:

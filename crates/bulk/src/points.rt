@@ -5,7 +5,7 @@ ghost use Rattle.bulk.specs.Refusals.{lengths_of, Fits};
 ghost use Rattle.bulk.specs.Moves.{move_point, move_point3, move_point4, point_by3, point_by4};
 
 use crate::load;
-use matrix::{Matrix3, Matrix4};
+use matrix::{Matrix3, Matrix4, SquareMatrix};
 use vector::{Vector2, Vector3, Vector4};
 
 // A point of order 3: extended by 1, multiplied, the last coordinate of the answer dropped.

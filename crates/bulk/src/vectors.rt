@@ -5,7 +5,7 @@ ghost use Rattle.bulk.specs.Refusals.{lengths_of, Fits};
 ghost use Rattle.bulk.specs.Moves.{move_vector, vector_by2, vector_by3, vector_by4};
 
 use crate::load;
-use matrix::{Matrix2, Matrix3, Matrix4};
+use matrix::{Matrix2, Matrix3, Matrix4, SquareMatrix};
 
 // Vectors of two numbers.
 fn move_each2(m: Matrix2, vectors: &[f64], output: &mut [f64])

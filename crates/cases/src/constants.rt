@@ -1,7 +1,7 @@
 // Of the records' constants (document 01, 'Rules of the arithmetic') their orders, since the list has zero and identity; and the number
 // and the place of each cause of a refusal (document 01, 'The numbers a refusal carries', and document 02, No. 1, 'Say column or row').
 use crate::count::Cases;
-use matrix::{Matrix2, Matrix3, Matrix4};
+use matrix::{Matrix2, Matrix3, Matrix4, SquareMatrix};
 use std::io;
 use vector::{Place, Placed, Refusal};
 
@@ -13,9 +13,9 @@ pub(crate) fn run<R: Print>(cases: &mut Cases<'_, R>) -> io::Result<()> {
 
 // The order of each record.
 fn orders<R: Print>(cases: &mut Cases<'_, R>) -> io::Result<()> {
-    cases.case("Matrix2::order", Matrix2::order() == 2)?;
-    cases.case("Matrix3::order", Matrix3::order() == 3)?;
-    cases.case("Matrix4::order", Matrix4::order() == 4)
+    cases.case("Matrix2::order", Matrix2::ORDER == 2)?;
+    cases.case("Matrix3::order", Matrix3::ORDER == 3)?;
+    cases.case("Matrix4::order", Matrix4::ORDER == 4)
 }
 
 // Which place this is: 0 for none, 1 for the first, 2 for the second.

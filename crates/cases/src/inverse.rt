@@ -1,7 +1,7 @@
 // Document 01, 'Reference cases, both sides of each edge': the inverse that is run only. And the way there and back, which is two calls and so no line of the list.
 use crate::count::Cases;
 use engine::NumberAnswer;
-use matrix::{Matrix2, Matrix2Answer, Matrix4, Matrix4Answer};
+use matrix::{Matrix2, Matrix2Answer, Matrix4, Matrix4Answer, SquareMatrix};
 use std::io;
 use vector::Vector4;
 

@@ -1,21 +1,29 @@
 -- Any two outcomes that a promise allows are equal: each public function of this crate, over its own promise.
 -- Assumes nothing.
+use Rattle.std.specs.Prelude.{Float}
+use Rattle.vector.specs.Arithmetic.{Computes, Computes₂}
 use Rattle.vector.proofs.Answers.{vector2_one, vector3_one, vector4_one}
-use Rattle.vector.proofs.Decided.{Decided, DecidedLent, value, meaning, meaning_lent}
+use Rattle.vector.proofs.Decided.{Decided, DecidedLent, DecidedWhere, value, computed, meaning, meaning_lent}
 use Rattle.matrix.proofs.Answers.{matrix2_one, matrix3_one, matrix4_one, swapped_one}
+use Rattle.matrix.proofs.arithmetic.Matrix2VectorSpace
+use Rattle.matrix.proofs.arithmetic.Matrix3VectorSpace
+use Rattle.matrix.proofs.arithmetic.Matrix4VectorSpace
+use Rattle.matrix.proofs.square.Matrix2SquareMatrix
+use Rattle.matrix.proofs.square.Matrix3SquareMatrix
+use Rattle.matrix.proofs.square.Matrix4SquareMatrix
 use Rattle.matrix.proofs.records.Matrix2
 use Rattle.matrix.proofs.records.Matrix3
 use Rattle.matrix.proofs.records.Matrix4
 
 -- ---- records.rt
 
-pub matrix2_order : Decided Matrix2.order.Reads.Learnt
+pub matrix2_order : Decided Matrix2SquareMatrix.ORDER.Reads.Learnt
 matrix2_order = value
 
-pub matrix2_zero : Decided Matrix2.zero.Reads.Learnt
+pub matrix2_zero : Decided Matrix2SquareMatrix.ZERO.Reads.Learnt
 matrix2_zero = value
 
-pub matrix2_identity : Decided Matrix2.identity.Reads.Learnt
+pub matrix2_identity : Decided Matrix2SquareMatrix.IDENTITY.Reads.Learnt
 matrix2_identity = value
 
 pub matrix2_new : Decided Matrix2.new.Reads.Learnt
@@ -33,19 +41,19 @@ matrix2_into_array = value
 pub matrix2_from_array : Decided Matrix2.from_array.Reads.Learnt
 matrix2_from_array = value
 
-pub matrix2_from_value : Decided Matrix2.from_value.Reads.Learnt
+pub matrix2_from_value : Decided Matrix2SquareMatrix.from_value.Reads.Learnt
 matrix2_from_value = value
 
-pub matrix2_from_diagonal : Decided Matrix2.from_diagonal.Reads.Learnt
+pub matrix2_from_diagonal : Decided Matrix2SquareMatrix.from_diagonal.Reads.Learnt
 matrix2_from_diagonal = value
 
-pub matrix3_order : Decided Matrix3.order.Reads.Learnt
+pub matrix3_order : Decided Matrix3SquareMatrix.ORDER.Reads.Learnt
 matrix3_order = value
 
-pub matrix3_zero : Decided Matrix3.zero.Reads.Learnt
+pub matrix3_zero : Decided Matrix3SquareMatrix.ZERO.Reads.Learnt
 matrix3_zero = value
 
-pub matrix3_identity : Decided Matrix3.identity.Reads.Learnt
+pub matrix3_identity : Decided Matrix3SquareMatrix.IDENTITY.Reads.Learnt
 matrix3_identity = value
 
 pub matrix3_new : Decided Matrix3.new.Reads.Learnt
@@ -69,22 +77,22 @@ matrix3_into_array = value
 pub matrix3_from_array : Decided Matrix3.from_array.Reads.Learnt
 matrix3_from_array = value
 
-pub matrix3_from_value : Decided Matrix3.from_value.Reads.Learnt
+pub matrix3_from_value : Decided Matrix3SquareMatrix.from_value.Reads.Learnt
 matrix3_from_value = value
 
-pub matrix3_from_diagonal : Decided Matrix3.from_diagonal.Reads.Learnt
+pub matrix3_from_diagonal : Decided Matrix3SquareMatrix.from_diagonal.Reads.Learnt
 matrix3_from_diagonal = value
 
 pub matrix3_from_matrix2 : Decided Matrix3.from_matrix2.Reads.Learnt
 matrix3_from_matrix2 = value
 
-pub matrix4_order : Decided Matrix4.order.Reads.Learnt
+pub matrix4_order : Decided Matrix4SquareMatrix.ORDER.Reads.Learnt
 matrix4_order = value
 
-pub matrix4_zero : Decided Matrix4.zero.Reads.Learnt
+pub matrix4_zero : Decided Matrix4SquareMatrix.ZERO.Reads.Learnt
 matrix4_zero = value
 
-pub matrix4_identity : Decided Matrix4.identity.Reads.Learnt
+pub matrix4_identity : Decided Matrix4SquareMatrix.IDENTITY.Reads.Learnt
 matrix4_identity = value
 
 pub matrix4_new : Decided Matrix4.new.Reads.Learnt
@@ -108,10 +116,10 @@ matrix4_into_array = value
 pub matrix4_from_array : Decided Matrix4.from_array.Reads.Learnt
 matrix4_from_array = value
 
-pub matrix4_from_value : Decided Matrix4.from_value.Reads.Learnt
+pub matrix4_from_value : Decided Matrix4SquareMatrix.from_value.Reads.Learnt
 matrix4_from_value = value
 
-pub matrix4_from_diagonal : Decided Matrix4.from_diagonal.Reads.Learnt
+pub matrix4_from_diagonal : Decided Matrix4SquareMatrix.from_diagonal.Reads.Learnt
 matrix4_from_diagonal = value
 
 pub matrix4_from_matrix2 : Decided Matrix4.from_matrix2.Reads.Learnt
@@ -189,85 +197,103 @@ matrix4_swap_elements_mut = meaning_lent swapped_one
 
 -- ---- arithmetic.rt
 
-pub matrix2_add : Decided Matrix2.add.Reads.Learnt
+pub matrix2_map : (T : _) (L : _) (C : _) (F : _) (d1 d2 d3 : _) (K : _) (d4 : _) → DecidedWhere (λ κ a. (f : Float → Float) × Computes (λ x r. F.post a.1.0 (x, tt) r) f) (Matrix2VectorSpace.map.Reads.Learnt T L C F d1 d2 d3 K d4)
+matrix2_map T L C F d1 d2 d3 K d4 = computed
+
+pub matrix2_zip : (T : _) (L : _) (C : _) (F : _) (d1 d2 d3 : _) (K : _) (d4 : _) → DecidedWhere (λ κ a. (f : Float → Float → Float) × Computes₂ (λ x y r. F.post a.1.1.0 (x, (y, tt)) r) f) (Matrix2VectorSpace.zip.Reads.Learnt T L C F d1 d2 d3 K d4)
+matrix2_zip T L C F d1 d2 d3 K d4 = computed
+
+pub matrix2_add : Decided Matrix2VectorSpace.add.Reads.Learnt
 matrix2_add = value
 
-pub matrix2_sub : Decided Matrix2.sub.Reads.Learnt
+pub matrix2_sub : Decided Matrix2VectorSpace.sub.Reads.Learnt
 matrix2_sub = value
 
-pub matrix2_scalar_mul : Decided Matrix2.scalar_mul.Reads.Learnt
+pub matrix2_scalar_mul : Decided Matrix2VectorSpace.scalar_mul.Reads.Learnt
 matrix2_scalar_mul = value
 
-pub matrix2_scalar_div : Decided Matrix2.scalar_div.Reads.Learnt
+pub matrix2_scalar_div : Decided Matrix2VectorSpace.scalar_div.Reads.Learnt
 matrix2_scalar_div = value
 
-pub matrix2_mul_vector : Decided Matrix2.mul_vector.Reads.Learnt
+pub matrix2_mul_vector : Decided Matrix2SquareMatrix.mul_vector.Reads.Learnt
 matrix2_mul_vector = value
 
-pub matrix2_mul : Decided Matrix2.mul.Reads.Learnt
+pub matrix2_mul : Decided Matrix2SquareMatrix.mul.Reads.Learnt
 matrix2_mul = value
 
-pub matrix2_neg : Decided Matrix2.neg.Reads.Learnt
+pub matrix2_neg : Decided Matrix2VectorSpace.neg.Reads.Learnt
 matrix2_neg = value
 
-pub matrix2_mul_scalar : Decided Matrix2.mul_scalar.Reads.Learnt
+pub matrix2_mul_scalar : Decided Matrix2VectorSpace.mul_scalar.Reads.Learnt
 matrix2_mul_scalar = value
 
-pub matrix2_div_scalar : Decided Matrix2.div_scalar.Reads.Learnt
+pub matrix2_div_scalar : Decided Matrix2VectorSpace.div_scalar.Reads.Learnt
 matrix2_div_scalar = value
 
-pub matrix3_add : Decided Matrix3.add.Reads.Learnt
+pub matrix3_map : (T : _) (L : _) (C : _) (F : _) (d1 d2 d3 : _) (K : _) (d4 : _) → DecidedWhere (λ κ a. (f : Float → Float) × Computes (λ x r. F.post a.1.0 (x, tt) r) f) (Matrix3VectorSpace.map.Reads.Learnt T L C F d1 d2 d3 K d4)
+matrix3_map T L C F d1 d2 d3 K d4 = computed
+
+pub matrix3_zip : (T : _) (L : _) (C : _) (F : _) (d1 d2 d3 : _) (K : _) (d4 : _) → DecidedWhere (λ κ a. (f : Float → Float → Float) × Computes₂ (λ x y r. F.post a.1.1.0 (x, (y, tt)) r) f) (Matrix3VectorSpace.zip.Reads.Learnt T L C F d1 d2 d3 K d4)
+matrix3_zip T L C F d1 d2 d3 K d4 = computed
+
+pub matrix3_add : Decided Matrix3VectorSpace.add.Reads.Learnt
 matrix3_add = value
 
-pub matrix3_sub : Decided Matrix3.sub.Reads.Learnt
+pub matrix3_sub : Decided Matrix3VectorSpace.sub.Reads.Learnt
 matrix3_sub = value
 
-pub matrix3_scalar_mul : Decided Matrix3.scalar_mul.Reads.Learnt
+pub matrix3_scalar_mul : Decided Matrix3VectorSpace.scalar_mul.Reads.Learnt
 matrix3_scalar_mul = value
 
-pub matrix3_scalar_div : Decided Matrix3.scalar_div.Reads.Learnt
+pub matrix3_scalar_div : Decided Matrix3VectorSpace.scalar_div.Reads.Learnt
 matrix3_scalar_div = value
 
-pub matrix3_mul_vector : Decided Matrix3.mul_vector.Reads.Learnt
+pub matrix3_mul_vector : Decided Matrix3SquareMatrix.mul_vector.Reads.Learnt
 matrix3_mul_vector = value
 
-pub matrix3_mul : Decided Matrix3.mul.Reads.Learnt
+pub matrix3_mul : Decided Matrix3SquareMatrix.mul.Reads.Learnt
 matrix3_mul = value
 
-pub matrix3_neg : Decided Matrix3.neg.Reads.Learnt
+pub matrix3_neg : Decided Matrix3VectorSpace.neg.Reads.Learnt
 matrix3_neg = value
 
-pub matrix3_mul_scalar : Decided Matrix3.mul_scalar.Reads.Learnt
+pub matrix3_mul_scalar : Decided Matrix3VectorSpace.mul_scalar.Reads.Learnt
 matrix3_mul_scalar = value
 
-pub matrix3_div_scalar : Decided Matrix3.div_scalar.Reads.Learnt
+pub matrix3_div_scalar : Decided Matrix3VectorSpace.div_scalar.Reads.Learnt
 matrix3_div_scalar = value
 
-pub matrix4_add : Decided Matrix4.add.Reads.Learnt
+pub matrix4_map : (T : _) (L : _) (C : _) (F : _) (d1 d2 d3 : _) (K : _) (d4 : _) → DecidedWhere (λ κ a. (f : Float → Float) × Computes (λ x r. F.post a.1.0 (x, tt) r) f) (Matrix4VectorSpace.map.Reads.Learnt T L C F d1 d2 d3 K d4)
+matrix4_map T L C F d1 d2 d3 K d4 = computed
+
+pub matrix4_zip : (T : _) (L : _) (C : _) (F : _) (d1 d2 d3 : _) (K : _) (d4 : _) → DecidedWhere (λ κ a. (f : Float → Float → Float) × Computes₂ (λ x y r. F.post a.1.1.0 (x, (y, tt)) r) f) (Matrix4VectorSpace.zip.Reads.Learnt T L C F d1 d2 d3 K d4)
+matrix4_zip T L C F d1 d2 d3 K d4 = computed
+
+pub matrix4_add : Decided Matrix4VectorSpace.add.Reads.Learnt
 matrix4_add = value
 
-pub matrix4_sub : Decided Matrix4.sub.Reads.Learnt
+pub matrix4_sub : Decided Matrix4VectorSpace.sub.Reads.Learnt
 matrix4_sub = value
 
-pub matrix4_scalar_mul : Decided Matrix4.scalar_mul.Reads.Learnt
+pub matrix4_scalar_mul : Decided Matrix4VectorSpace.scalar_mul.Reads.Learnt
 matrix4_scalar_mul = value
 
-pub matrix4_scalar_div : Decided Matrix4.scalar_div.Reads.Learnt
+pub matrix4_scalar_div : Decided Matrix4VectorSpace.scalar_div.Reads.Learnt
 matrix4_scalar_div = value
 
-pub matrix4_mul_vector : Decided Matrix4.mul_vector.Reads.Learnt
+pub matrix4_mul_vector : Decided Matrix4SquareMatrix.mul_vector.Reads.Learnt
 matrix4_mul_vector = value
 
-pub matrix4_mul : Decided Matrix4.mul.Reads.Learnt
+pub matrix4_mul : Decided Matrix4SquareMatrix.mul.Reads.Learnt
 matrix4_mul = value
 
-pub matrix4_neg : Decided Matrix4.neg.Reads.Learnt
+pub matrix4_neg : Decided Matrix4VectorSpace.neg.Reads.Learnt
 matrix4_neg = value
 
-pub matrix4_mul_scalar : Decided Matrix4.mul_scalar.Reads.Learnt
+pub matrix4_mul_scalar : Decided Matrix4VectorSpace.mul_scalar.Reads.Learnt
 matrix4_mul_scalar = value
 
-pub matrix4_div_scalar : Decided Matrix4.div_scalar.Reads.Learnt
+pub matrix4_div_scalar : Decided Matrix4VectorSpace.div_scalar.Reads.Learnt
 matrix4_div_scalar = value
 
 -- ---- inverse.rt

@@ -8,7 +8,7 @@ ghost use Rattle.matrix.specs.Inverse.{invert2, invert3, invert4};
 ghost use Rattle.matrix.specs.Inverse.{without_place, sign, cofactor, inverse_column};
 
 use crate::records::{Matrix2, Matrix2Answer, Matrix3, Matrix3Answer, Matrix4, Matrix4Answer};
-use vector::{Refusal, Vector3, Vector3Answer, Vector4};
+use vector::{Refusal, Vector, Vector3, Vector3Answer, Vector4, VectorSpace};
 
 impl Matrix2 {
     // The determinant.

@@ -8,7 +8,9 @@ pub mod inverse;
 pub mod places;
 pub mod records;
 pub mod rotations;
+pub mod square;
 
 pub use in_place::Swapped;
 pub use places::{Column, Row};
 pub use records::{Matrix2, Matrix2Answer, Matrix3, Matrix3Answer, Matrix4, Matrix4Answer};
+pub use square::SquareMatrix;

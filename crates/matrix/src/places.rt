@@ -14,6 +14,7 @@ ghost use Rattle.matrix.specs.Places.{swap_columns2, swap_columns3, swap_columns
 ghost use Rattle.matrix.specs.Places.{swap_elements2, swap_elements3, swap_elements4};
 
 use crate::records::{Matrix2, Matrix2Answer, Matrix3, Matrix3Answer, Matrix4, Matrix4Answer};
+use crate::square::SquareMatrix;
 use vector::{
     Place, Refusal, Vector2, Vector2Answer, Vector3, Vector3Answer, Vector4, Vector4Answer,
 };

@@ -1,15 +1,13 @@
 // The matrix records, their constants, arrays, builders and embeddings: document 01, 'Modules, leaves first', 2.
 ghost use Rattle.std.specs.Prelude.{◌≡◌};
-ghost use Rattle.matrix.specs.Records.{order2, order3, order4};
 ghost use Rattle.matrix.specs.Records.{new2, new3, new4, matrix2, matrix3, matrix4};
-ghost use Rattle.matrix.specs.Records.{zero2, zero3, zero4, identity2, identity3, identity4};
 ghost use Rattle.matrix.specs.Records.{array2, array3, array4, of_array2, of_array3, of_array4};
 ghost use Rattle.matrix.specs.Records.{from_value2, from_value3, from_value4};
-ghost use Rattle.matrix.specs.Records.{from_diagonal2, from_diagonal3, from_diagonal4};
 ghost use Rattle.matrix.specs.Records.{from_translation3, from_translation4};
 ghost use Rattle.matrix.specs.Records.{from_nonuniform_scale3, from_nonuniform_scale4};
 ghost use Rattle.matrix.specs.Records.{embed23, embed24, embed34};
 
+use crate::square::SquareMatrix;
 use vector::{Refusal, Vector2, Vector3, Vector4};
 
 // A matrix of order 2, as its columns.
@@ -70,42 +68,6 @@ pub enum Matrix4Answer {
 }
 
 impl Matrix2 {
-    // How many rows and columns it has.
-    pub const ORDER: usize = 2;
-
-    // Every entry 0.
-    pub const ZERO: Matrix2 = Matrix2 {
-        x: Vector2 { x: 0.0, y: 0.0 },
-        y: Vector2 { x: 0.0, y: 0.0 },
-    };
-
-    // 1 down the diagonal, 0 elsewhere.
-    pub const IDENTITY: Matrix2 = Matrix2 {
-        x: Vector2 { x: 1.0, y: 0.0 },
-        y: Vector2 { x: 0.0, y: 1.0 },
-    };
-
-    // ORDER, with its promise: a constant carries none.
-    pub fn order() -> usize
-        ensures { result ≡ order2 }
-    {
-        Matrix2::ORDER
-    }
-
-    // ZERO, with its promise.
-    pub fn zero() -> Matrix2
-        ensures { result ≡ zero2 }
-    {
-        Matrix2::ZERO
-    }
-
-    // IDENTITY, with its promise.
-    pub fn identity() -> Matrix2
-        ensures { result ≡ identity2 }
-    {
-        Matrix2::IDENTITY
-    }
-
     // The matrix of these entries, column by column.
     pub fn new(c0r0: f64, c0r1: f64, c1r0: f64, c1r1: f64) -> Matrix2
         ensures { result ≡ new2 c0r0 c0r1 c1r0 c1r1 }
@@ -140,85 +102,9 @@ impl Matrix2 {
     {
         Matrix2::new(m[0][0], m[0][1], m[1][0], m[1][1])
     }
-
-    // The value down the diagonal, 0 elsewhere.
-    pub fn from_value(value: f64) -> Matrix2
-        ensures { result ≡ from_value2 value }
-    {
-        Matrix2::from_array([[value, 0.0], [0.0, value]])
-    }
-
-    // The vector down the diagonal, 0 elsewhere.
-    pub fn from_diagonal(value: Vector2) -> Matrix2
-        ensures { result ≡ from_diagonal2 value }
-    {
-        Matrix2::from_array([[value.x, 0.0], [0.0, value.y]])
-    }
 }
 
 impl Matrix3 {
-    // How many rows and columns it has.
-    pub const ORDER: usize = 3;
-
-    // Every entry 0.
-    pub const ZERO: Matrix3 = Matrix3 {
-        x: Vector3 {
-            x: 0.0,
-            y: 0.0,
-            z: 0.0,
-        },
-        y: Vector3 {
-            x: 0.0,
-            y: 0.0,
-            z: 0.0,
-        },
-        z: Vector3 {
-            x: 0.0,
-            y: 0.0,
-            z: 0.0,
-        },
-    };
-
-    // 1 down the diagonal, 0 elsewhere.
-    pub const IDENTITY: Matrix3 = Matrix3 {
-        x: Vector3 {
-            x: 1.0,
-            y: 0.0,
-            z: 0.0,
-        },
-        y: Vector3 {
-            x: 0.0,
-            y: 1.0,
-            z: 0.0,
-        },
-        z: Vector3 {
-            x: 0.0,
-            y: 0.0,
-            z: 1.0,
-        },
-    };
-
-    // ORDER, with its promise: a constant carries none.
-    pub fn order() -> usize
-        ensures { result ≡ order3 }
-    {
-        Matrix3::ORDER
-    }
-
-    // ZERO, with its promise.
-    pub fn zero() -> Matrix3
-        ensures { result ≡ zero3 }
-    {
-        Matrix3::ZERO
-    }
-
-    // IDENTITY, with its promise.
-    pub fn identity() -> Matrix3
-        ensures { result ≡ identity3 }
-    {
-        Matrix3::IDENTITY
-    }
-
     // The matrix of these entries, column by column.
     pub fn new(
         c0r0: f64,
@@ -292,24 +178,6 @@ impl Matrix3 {
         )
     }
 
-    // The value down the diagonal, 0 elsewhere.
-    pub fn from_value(value: f64) -> Matrix3
-        ensures { result ≡ from_value3 value }
-    {
-        Matrix3::from_array([[value, 0.0, 0.0], [0.0, value, 0.0], [0.0, 0.0, value]])
-    }
-
-    // The vector down the diagonal, 0 elsewhere.
-    pub fn from_diagonal(value: Vector3) -> Matrix3
-        ensures { result ≡ from_diagonal3 value }
-    {
-        Matrix3::from_array([
-            [value.x, 0.0, 0.0],
-            [0.0, value.y, 0.0],
-            [0.0, 0.0, value.z],
-        ])
-    }
-
     // A matrix of order 2 in the top left corner of the identity.
     pub fn from_matrix2(m: Matrix2) -> Matrix3
         ensures { result ≡ embed23 m }
@@ -319,86 +187,6 @@ impl Matrix3 {
 }
 
 impl Matrix4 {
-    // How many rows and columns it has.
-    pub const ORDER: usize = 4;
-
-    // Every entry 0.
-    pub const ZERO: Matrix4 = Matrix4 {
-        x: Vector4 {
-            x: 0.0,
-            y: 0.0,
-            z: 0.0,
-            w: 0.0,
-        },
-        y: Vector4 {
-            x: 0.0,
-            y: 0.0,
-            z: 0.0,
-            w: 0.0,
-        },
-        z: Vector4 {
-            x: 0.0,
-            y: 0.0,
-            z: 0.0,
-            w: 0.0,
-        },
-        w: Vector4 {
-            x: 0.0,
-            y: 0.0,
-            z: 0.0,
-            w: 0.0,
-        },
-    };
-
-    // 1 down the diagonal, 0 elsewhere.
-    pub const IDENTITY: Matrix4 = Matrix4 {
-        x: Vector4 {
-            x: 1.0,
-            y: 0.0,
-            z: 0.0,
-            w: 0.0,
-        },
-        y: Vector4 {
-            x: 0.0,
-            y: 1.0,
-            z: 0.0,
-            w: 0.0,
-        },
-        z: Vector4 {
-            x: 0.0,
-            y: 0.0,
-            z: 1.0,
-            w: 0.0,
-        },
-        w: Vector4 {
-            x: 0.0,
-            y: 0.0,
-            z: 0.0,
-            w: 1.0,
-        },
-    };
-
-    // ORDER, with its promise: a constant carries none.
-    pub fn order() -> usize
-        ensures { result ≡ order4 }
-    {
-        Matrix4::ORDER
-    }
-
-    // ZERO, with its promise.
-    pub fn zero() -> Matrix4
-        ensures { result ≡ zero4 }
-    {
-        Matrix4::ZERO
-    }
-
-    // IDENTITY, with its promise.
-    pub fn identity() -> Matrix4
-        ensures { result ≡ identity4 }
-    {
-        Matrix4::IDENTITY
-    }
-
     // The matrix of these entries, column by column.
     pub fn new(
         c0r0: f64,
@@ -491,30 +279,6 @@ impl Matrix4 {
             m[0][0], m[0][1], m[0][2], m[0][3], m[1][0], m[1][1], m[1][2], m[1][3], m[2][0],
             m[2][1], m[2][2], m[2][3], m[3][0], m[3][1], m[3][2], m[3][3],
         )
-    }
-
-    // The value down the diagonal, 0 elsewhere.
-    pub fn from_value(value: f64) -> Matrix4
-        ensures { result ≡ from_value4 value }
-    {
-        Matrix4::from_array([
-            [value, 0.0, 0.0, 0.0],
-            [0.0, value, 0.0, 0.0],
-            [0.0, 0.0, value, 0.0],
-            [0.0, 0.0, 0.0, value],
-        ])
-    }
-
-    // The vector down the diagonal, 0 elsewhere.
-    pub fn from_diagonal(value: Vector4) -> Matrix4
-        ensures { result ≡ from_diagonal4 value }
-    {
-        Matrix4::from_array([
-            [value.x, 0.0, 0.0, 0.0],
-            [0.0, value.y, 0.0, 0.0],
-            [0.0, 0.0, value.z, 0.0],
-            [0.0, 0.0, 0.0, value.w],
-        ])
     }
 
     // A matrix of order 2 in the top left corner of the identity.

@@ -4,7 +4,8 @@ ghost use Rattle.migthumo.specs.Entries.{Answers};
 ghost use Rattle.migthumo.specs.Boundary.{product, add, subtract, scale, divide, scale_by, divide_by, negate};
 
 use crate::{check, load, store};
-use matrix::{Matrix2Answer, Matrix3Answer, Matrix4Answer};
+use matrix::{Matrix2Answer, Matrix3Answer, Matrix4Answer, SquareMatrix};
+use vector::VectorSpace;
 
 // The product a times b.
 #[unsafe(no_mangle)]

@@ -1,59 +1,26 @@
-// Sums, scalar forms and products, by their numbers.
-use crate::answer::{Answer, given};
+// Sums, scalar forms and products.
+use crate::answer::{Answer, HasEntries, given};
 use crate::table::Operation;
-use crate::words::Words;
-use matrix::{Matrix2, Matrix3, Matrix4};
+use crate::words::{Stated, Words};
+use matrix::SquareMatrix;
 
-// A sum, a scalar form or a product of order 2.
-pub(crate) fn order2(operation: Operation, mut words: Words<'_>) -> Option<Answer> {
-    let m: Matrix2 = words.read();
-    let result = match operation {
-        Operation::Add => m.add(words.read()),
-        Operation::Sub => m.sub(words.read()),
-        Operation::ScalarMul => m.scalar_mul(words.read()),
-        Operation::ScalarDiv => m.scalar_div(words.read()),
-        Operation::MulScalar => m.mul_scalar(words.read()),
-        Operation::DivScalar => m.div_scalar(words.read()),
-        Operation::Neg => m.neg(),
-        Operation::Mul => m.mul(words.read()),
-        Operation::MulVector => return given(m.mul_vector(words.read())),
-        _ => return None,
-    };
-    given(result)
-}
-
-// A sum, a scalar form or a product of order 3.
-pub(crate) fn order3(operation: Operation, mut words: Words<'_>) -> Option<Answer> {
-    let m: Matrix3 = words.read();
-    let result = match operation {
-        Operation::Add => m.add(words.read()),
-        Operation::Sub => m.sub(words.read()),
-        Operation::ScalarMul => m.scalar_mul(words.read()),
-        Operation::ScalarDiv => m.scalar_div(words.read()),
-        Operation::MulScalar => m.mul_scalar(words.read()),
-        Operation::DivScalar => m.div_scalar(words.read()),
-        Operation::Neg => m.neg(),
-        Operation::Mul => m.mul(words.read()),
-        Operation::MulVector => return given(m.mul_vector(words.read())),
-        _ => return None,
-    };
-    given(result)
-}
-
-// A sum, a scalar form or a product of order 4.
-pub(crate) fn order4(operation: Operation, mut words: Words<'_>) -> Option<Answer> {
-    let m: Matrix4 = words.read();
-    let result = match operation {
-        Operation::Add => m.add(words.read()),
-        Operation::Sub => m.sub(words.read()),
-        Operation::ScalarMul => m.scalar_mul(words.read()),
-        Operation::ScalarDiv => m.scalar_div(words.read()),
-        Operation::MulScalar => m.mul_scalar(words.read()),
-        Operation::DivScalar => m.div_scalar(words.read()),
-        Operation::Neg => m.neg(),
-        Operation::Mul => m.mul(words.read()),
-        Operation::MulVector => return given(m.mul_vector(words.read())),
-        _ => return None,
-    };
-    given(result)
+// A sum, a scalar form or a product of a matrix of any order.
+pub(crate) fn done<M>(operation: Operation, mut words: Words<'_>) -> Option<Answer>
+where
+    M: SquareMatrix + Stated + HasEntries,
+    M::Column: Stated + HasEntries,
+{
+    let m: M = words.read();
+    match operation {
+        Operation::Add => given(m.add(words.read())),
+        Operation::Sub => given(m.sub(words.read())),
+        Operation::ScalarMul => given(m.scalar_mul(words.read())),
+        Operation::ScalarDiv => given(m.scalar_div(words.read())),
+        Operation::MulScalar => given(m.mul_scalar(words.read())),
+        Operation::DivScalar => given(m.div_scalar(words.read())),
+        Operation::Neg => given(m.neg()),
+        Operation::Mul => given(m.mul(words.read())),
+        Operation::MulVector => given(m.mul_vector(words.read())),
+        _ => None,
+    }
 }

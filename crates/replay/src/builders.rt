@@ -2,13 +2,13 @@
 use crate::answer::{Answer, given};
 use crate::table::Operation;
 use crate::words::Words;
-use matrix::{Matrix2, Matrix3, Matrix4};
+use matrix::{Matrix2, Matrix3, Matrix4, SquareMatrix};
 
 // A builder of a matrix of order 2. What `into_array` gives is read back by `from_array`.
 pub(crate) fn order2(operation: Operation, mut words: Words<'_>) -> Option<Answer> {
     let result = match operation {
-        Operation::Zero => Matrix2::zero(),
-        Operation::Identity => Matrix2::identity(),
+        Operation::Zero => Matrix2::ZERO,
+        Operation::Identity => Matrix2::IDENTITY,
         Operation::New => new2(words),
         Operation::FromCols => Matrix2::from_cols(words.read(), words.read()),
         Operation::FromArray => Matrix2::from_array(words.read()),
@@ -33,8 +33,8 @@ fn new2(mut words: Words<'_>) -> Matrix2 {
 // A builder of a matrix of order 3. What `into_array` gives is read back by `from_array`.
 pub(crate) fn order3(operation: Operation, mut words: Words<'_>) -> Option<Answer> {
     let result = match operation {
-        Operation::Zero => Matrix3::zero(),
-        Operation::Identity => Matrix3::identity(),
+        Operation::Zero => Matrix3::ZERO,
+        Operation::Identity => Matrix3::IDENTITY,
         Operation::New => new3(words),
         Operation::FromCols => Matrix3::from_cols(words.read(), words.read(), words.read()),
         Operation::FromArray => Matrix3::from_array(words.read()),
@@ -65,8 +65,8 @@ fn new3(mut words: Words<'_>) -> Matrix3 {
 // A builder of a matrix of order 4. What `into_array` gives is read back by `from_array`.
 pub(crate) fn order4(operation: Operation, mut words: Words<'_>) -> Option<Answer> {
     let result = match operation {
-        Operation::Zero => Matrix4::zero(),
-        Operation::Identity => Matrix4::identity(),
+        Operation::Zero => Matrix4::ZERO,
+        Operation::Identity => Matrix4::IDENTITY,
         Operation::New => new4(words),
         Operation::FromCols => Matrix4::from_cols(
             words.read(),

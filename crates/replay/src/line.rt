@@ -5,6 +5,7 @@ use crate::outcome::{Compared, Uncompared};
 use crate::table::{Operation, Order};
 use crate::words::Words;
 use crate::{arithmetic, builders, inverse, moves, places, rotations, vectors, whole_numbers};
+use matrix::{Matrix2, Matrix3, Matrix4};
 
 // What the line comes to.
 pub(crate) fn replayed(line: &[u8]) -> Result<Compared, Uncompared> {
@@ -56,7 +57,7 @@ fn order2(operation: Operation, words: Words<'_>) -> Option<Answer> {
     vectors::order2(operation, words)
         .or_else(|| builders::order2(operation, words))
         .or_else(|| places::order2(operation, words))
-        .or_else(|| arithmetic::order2(operation, words))
+        .or_else(|| arithmetic::done::<Matrix2>(operation, words))
         .or_else(|| inverse::order2(operation, words))
         .or_else(|| rotations::order2(operation, words))
         .or_else(|| whole_numbers::order2(operation, words))
@@ -67,7 +68,7 @@ fn order3(operation: Operation, words: Words<'_>) -> Option<Answer> {
     vectors::order3(operation, words)
         .or_else(|| builders::order3(operation, words))
         .or_else(|| places::order3(operation, words))
-        .or_else(|| arithmetic::order3(operation, words))
+        .or_else(|| arithmetic::done::<Matrix3>(operation, words))
         .or_else(|| inverse::order3(operation, words))
         .or_else(|| rotations::order3(operation, words))
         .or_else(|| whole_numbers::order3(operation, words))
@@ -78,7 +79,7 @@ fn order4(operation: Operation, words: Words<'_>) -> Option<Answer> {
     vectors::order4(operation, words)
         .or_else(|| builders::order4(operation, words))
         .or_else(|| places::order4(operation, words))
-        .or_else(|| arithmetic::order4(operation, words))
+        .or_else(|| arithmetic::done::<Matrix4>(operation, words))
         .or_else(|| inverse::order4(operation, words))
         .or_else(|| rotations::order4(operation, words))
         .or_else(|| whole_numbers::order4(operation, words))

@@ -1,6 +1,6 @@
 -- Document 01, 'Rules of the arithmetic': each operation rounds once, to nearest even, as IEEE 754 says, at binary64.
 -- Short names for the library's own operations, and the numbers 0 and 1. Assumes nothing.
-use Rattle.std.specs.Prelude.{Float}
+use Rattle.std.specs.Prelude.{◌≡◌, Float}
 use Rattle.std.specs.Float.{binary64}
 use Rattle.std.specs.Float.Ieee.{add, sub, mul, div, of_bits}
 
@@ -31,3 +31,10 @@ float0 = of_bits binary64 0
 -- 1.0, by its bit pattern
 abbrev pub float1 : Float
 float1 = of_bits binary64 0x3ff0_0000_0000_0000
+
+-- whatever a closure may answer is what the function gives: `post x r` says that it may answer r at x
+abbrev pub Computes : (Float → Float → Type 0) → (Float → Float) → Type 0
+Computes post f = (x r : Float) → post x r → r ≡ f x
+
+abbrev pub Computes₂ : (Float → Float → Float → Type 0) → (Float → Float → Float) → Type 0
+Computes₂ post f = (x y r : Float) → post x y r → r ≡ f x y

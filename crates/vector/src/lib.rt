@@ -3,15 +3,17 @@
 #![tactic(auto)]
 
 pub mod refusal;
+pub mod space;
 
-ghost use Rattle.std.specs.Prelude.{◌≡◌};
+ghost use Rattle.std.specs.Prelude.{◌≡◌, refl};
 ghost use Rattle.vector.specs.Vectors.{vector2, vector3, vector4};
-ghost use Rattle.vector.specs.Vectors.{add2, add3, add4, sub2, sub3, sub4};
-ghost use Rattle.vector.specs.Vectors.{scalar_mul2, scalar_mul3, scalar_mul4, div_scalar3};
+ghost use Rattle.vector.specs.Vectors.{map2, map3, map4, zip2, zip3, zip4};
+ghost use Rattle.vector.specs.Vectors.{entries2, entries3, entries4, of_entries2, of_entries3, of_entries4};
 ghost use Rattle.vector.specs.Vectors.{dot2, dot3, dot4, cross3, truncate_n4};
 ghost use Rattle.vector.specs.Refusals.{vector3_outcome};
 
 pub use refusal::{Place, Placed, Refusal};
+pub use space::{Vector, VectorSpace};
 
 // A vector of two numbers.
 #[repr(C)]
@@ -68,32 +70,43 @@ impl Vector2 {
     {
         Vector2 { x, y }
     }
+}
 
-    // The sum, entry by entry.
-    pub fn add(self, other: Vector2) -> Vector2
-        ensures { result ≡ add2 self other }
-    {
-        Vector2::new(self.x + other.x, self.y + other.y)
+impl VectorSpace for Vector2 {
+    ghost map = { map2 };
+
+    ghost zip = { zip2 };
+
+    fn map<F: Fn(f64) -> f64 + Copy>(self, f: F) -> Vector2 {
+        Vector2::new(f(self.x), f(self.y))
     }
 
-    // The difference, entry by entry.
-    pub fn sub(self, other: Vector2) -> Vector2
-        ensures { result ≡ sub2 self other }
-    {
-        Vector2::new(self.x - other.x, self.y - other.y)
+    fn zip<F: Fn(f64, f64) -> f64 + Copy>(self, other: Vector2, f: F) -> Vector2 {
+        Vector2::new(f(self.x, other.x), f(self.y, other.y))
     }
+}
 
-    // The scalar, on the left, times each entry.
-    pub fn scalar_mul(self, scalar: f64) -> Vector2
-        ensures { result ≡ scalar_mul2 scalar self }
-    {
-        Vector2::new(scalar * self.x, scalar * self.y)
+impl Vector for Vector2 {
+    ghost LENGTH = { 2 };
+
+    ghost entries = { entries2 };
+
+    ghost of_entries = { of_entries2 };
+
+    ghost dot = { dot2 };
+
+    const LENGTH: usize = 2;
+
+    ghost length_is = { λ v. refl };
+
+    ghost there_and_back = { λ v. refl };
+
+    fn from_value(value: f64) -> Vector2 {
+        Vector2::new(value, value)
     }
 
     // The products entry by entry, summed.
-    pub fn dot(self, other: Vector2) -> f64
-        ensures { result ≡ dot2 self other }
-    {
+    fn dot(self, other: Vector2) -> f64 {
         self.x * other.x + self.y * other.y
     }
 }
@@ -104,41 +117,6 @@ impl Vector3 {
         ensures { result ≡ vector3 x y z }
     {
         Vector3 { x, y, z }
-    }
-
-    // The sum, entry by entry.
-    pub fn add(self, other: Vector3) -> Vector3
-        ensures { result ≡ add3 self other }
-    {
-        Vector3::new(self.x + other.x, self.y + other.y, self.z + other.z)
-    }
-
-    // The difference, entry by entry.
-    pub fn sub(self, other: Vector3) -> Vector3
-        ensures { result ≡ sub3 self other }
-    {
-        Vector3::new(self.x - other.x, self.y - other.y, self.z - other.z)
-    }
-
-    // The scalar, on the left, times each entry.
-    pub fn scalar_mul(self, scalar: f64) -> Vector3
-        ensures { result ≡ scalar_mul3 scalar self }
-    {
-        Vector3::new(scalar * self.x, scalar * self.y, scalar * self.z)
-    }
-
-    // Each entry divided by the scalar.
-    pub fn div_scalar(self, scalar: f64) -> Vector3
-        ensures { result ≡ div_scalar3 self scalar }
-    {
-        Vector3::new(self.x / scalar, self.y / scalar, self.z / scalar)
-    }
-
-    // The products entry by entry, summed x + (y + z).
-    pub fn dot(self, other: Vector3) -> f64
-        ensures { result ≡ dot3 self other }
-    {
-        self.x * other.x + (self.y * other.y + self.z * other.z)
     }
 
     // The cross product.
@@ -153,55 +131,51 @@ impl Vector3 {
     }
 }
 
+impl VectorSpace for Vector3 {
+    ghost map = { map3 };
+
+    ghost zip = { zip3 };
+
+    fn map<F: Fn(f64) -> f64 + Copy>(self, f: F) -> Vector3 {
+        Vector3::new(f(self.x), f(self.y), f(self.z))
+    }
+
+    fn zip<F: Fn(f64, f64) -> f64 + Copy>(self, other: Vector3, f: F) -> Vector3 {
+        Vector3::new(f(self.x, other.x), f(self.y, other.y), f(self.z, other.z))
+    }
+}
+
+impl Vector for Vector3 {
+    ghost LENGTH = { 3 };
+
+    ghost entries = { entries3 };
+
+    ghost of_entries = { of_entries3 };
+
+    ghost dot = { dot3 };
+
+    const LENGTH: usize = 3;
+
+    ghost length_is = { λ v. refl };
+
+    ghost there_and_back = { λ v. refl };
+
+    fn from_value(value: f64) -> Vector3 {
+        Vector3::new(value, value, value)
+    }
+
+    // The products entry by entry, summed x + (y + z).
+    fn dot(self, other: Vector3) -> f64 {
+        self.x * other.x + (self.y * other.y + self.z * other.z)
+    }
+}
+
 impl Vector4 {
     // The vector of these numbers.
     pub fn new(x: f64, y: f64, z: f64, w: f64) -> Vector4
         ensures { result ≡ vector4 x y z w }
     {
         Vector4 { x, y, z, w }
-    }
-
-    // The sum, entry by entry.
-    pub fn add(self, other: Vector4) -> Vector4
-        ensures { result ≡ add4 self other }
-    {
-        Vector4::new(
-            self.x + other.x,
-            self.y + other.y,
-            self.z + other.z,
-            self.w + other.w,
-        )
-    }
-
-    // The difference, entry by entry.
-    pub fn sub(self, other: Vector4) -> Vector4
-        ensures { result ≡ sub4 self other }
-    {
-        Vector4::new(
-            self.x - other.x,
-            self.y - other.y,
-            self.z - other.z,
-            self.w - other.w,
-        )
-    }
-
-    // The scalar, on the left, times each entry.
-    pub fn scalar_mul(self, scalar: f64) -> Vector4
-        ensures { result ≡ scalar_mul4 scalar self }
-    {
-        Vector4::new(
-            scalar * self.x,
-            scalar * self.y,
-            scalar * self.z,
-            scalar * self.w,
-        )
-    }
-
-    // The products entry by entry, summed x + (y + (z + w)).
-    pub fn dot(self, other: Vector4) -> f64
-        ensures { result ≡ dot4 self other }
-    {
-        self.x * other.x + (self.y * other.y + (self.z * other.z + self.w * other.w))
     }
 
     // The other three entries in their order, without entry n, or refusal 12, first.
@@ -215,5 +189,49 @@ impl Vector4 {
             3 => Vector3Answer::Given(Vector3::new(self.x, self.y, self.z)),
             _ => Vector3Answer::Refused(Refusal::Row(Place::First)),
         }
+    }
+}
+
+impl VectorSpace for Vector4 {
+    ghost map = { map4 };
+
+    ghost zip = { zip4 };
+
+    fn map<F: Fn(f64) -> f64 + Copy>(self, f: F) -> Vector4 {
+        Vector4::new(f(self.x), f(self.y), f(self.z), f(self.w))
+    }
+
+    fn zip<F: Fn(f64, f64) -> f64 + Copy>(self, other: Vector4, f: F) -> Vector4 {
+        Vector4::new(
+            f(self.x, other.x),
+            f(self.y, other.y),
+            f(self.z, other.z),
+            f(self.w, other.w),
+        )
+    }
+}
+
+impl Vector for Vector4 {
+    ghost LENGTH = { 4 };
+
+    ghost entries = { entries4 };
+
+    ghost of_entries = { of_entries4 };
+
+    ghost dot = { dot4 };
+
+    const LENGTH: usize = 4;
+
+    ghost length_is = { λ v. refl };
+
+    ghost there_and_back = { λ v. refl };
+
+    fn from_value(value: f64) -> Vector4 {
+        Vector4::new(value, value, value, value)
+    }
+
+    // The products entry by entry, summed x + (y + (z + w)).
+    fn dot(self, other: Vector4) -> f64 {
+        self.x * other.x + (self.y * other.y + (self.z * other.z + self.w * other.w))
     }
 }

@@ -1,0 +1,5 @@
+-- Each column is what its call gave, at the function f that the closure computes. Assumes nothing.
+use Rattle.matrix.proofs.arithmetic.Matrix4VectorSpace.map.Goals as goal
+
+pub returns : goal.returns
+returns g c f h = rw (c.from_cols.ensures, c.map.ensures f h, c.map-2.ensures f h, c.map-3.ensures f h, c.map-4.ensures f h)
