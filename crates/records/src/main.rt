@@ -7,8 +7,7 @@
 mod read;
 mod write;
 
-ghost use Rattle.std.specs.Prelude.{◌≤◌, length, IfOk};
-
+use arrayvec::ArrayVec;
 use std::io;
 use std::io::Read;
 
@@ -16,26 +15,9 @@ use std::io::Read;
 const LENGTH: usize = 65536;
 
 fn main(rt: HostRuntime) -> io::Result<()> {
-    let mut table = [0u8; LENGTH];
-    let n = read_full(&rt, &mut table)?;
-    lines(&rt, &table[..n])
-}
-
-// Reads until the room is full or the input ends: how many bytes there are. The program that replays the list has the same function:
-// in a library that both use each promise decides its outcome, and no contract can say what a read gives.
-fn read_full(rt: &impl Input, text: &mut [u8]) -> io::Result<usize>
-    ensures { IfOk result (λ n. n ≤ length text.new) }
-{
-    let mut input = rt.reader();
-    let mut n = 0;
-    for _ in 0..u64::MAX {
-        let got = input.read(&mut text[n..])?;
-        if got == 0 {
-            return Ok(n);
-        }
-        n += got;
-    }
-    Ok(n)
+    let mut table = ArrayVec::<u8, LENGTH>::new();
+    io::copy(&mut rt.reader().take(LENGTH as u64), &mut table)?;
+    lines(&rt, table.as_slice())
 }
 
 // Every line of the table.

@@ -14,8 +14,9 @@ pub(crate) fn replayed(line: &[u8]) -> Result<Compared, Uncompared> {
     let order = Order::stated(line.word());
     line.word();
     match operation {
-        Some(Operation::MoveVectors) => moves::replayed(line, Operation::MoveVectors, order),
-        Some(Operation::MovePoints) => moves::replayed(line, Operation::MovePoints, order),
+        Some(operation @ (Operation::MoveVectors | Operation::MovePoints)) => {
+            moves::replayed(line, operation, order)
+        }
         _ => single(line, operation, order),
     }
 }
@@ -52,7 +53,8 @@ fn done(operation: Operation, order: Order, words: Words<'_>) -> Option<Answer> 
     }
 }
 
-// An operation of order 2, of whichever group has it.
+// An operation of order 2, of whichever group has it. Each order has functions of its own, here and in the files of the groups, since each
+// record has most of these operations for itself, in no trait, and no two orders have the same ones.
 fn order2(operation: Operation, words: Words<'_>) -> Option<Answer> {
     vectors::order2(operation, words)
         .or_else(|| builders::order2(operation, words))

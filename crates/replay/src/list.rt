@@ -30,26 +30,23 @@ impl<'a> Line<'a> {
     }
 
     // What the next word states; it is still to be read where it states nothing.
-    pub(crate) fn number(&mut self) -> Option<u64> {
+    pub(crate) fn number(&mut self) -> Result<u64, Uncompared> {
         let mut rest = *self;
-        let value = stated(rest.word())?;
+        let value = stated(rest.word()).ok_or(Uncompared::NotRead)?;
         *self = rest;
-        Some(value)
+        Ok(value)
     }
 
-    // The whole number that the next word has to state.
+    // The order or the length that the next word states.
     pub(crate) fn whole(&mut self) -> Result<usize, Uncompared> {
-        match self.number() {
-            Some(n) => Ok(n as usize),
-            None => Err(Uncompared::NotRead),
-        }
+        Ok(self.number()? as usize)
     }
 
     // What the next words state, up to one that states nothing, and at most as many as an operation reads.
     pub(crate) fn numbers(&mut self) -> ArrayVec<u64, ROOM> {
         let mut all = ArrayVec::new();
         for _ in 0..ROOM {
-            let Some(value) = self.number() else {
+            let Ok(value) = self.number() else {
                 return all;
             };
             let _ = all.try_push(value);
@@ -80,10 +77,9 @@ impl<'a> Line<'a> {
         let numbers = self.numbers();
         self.end()?;
         match (sign, numbers.as_slice()) {
-            (b'=', entries) => match ArrayVec::try_from(entries) {
-                Ok(entries) => Ok(Ok(entries)),
-                Err(_) => Err(Uncompared::NotRead),
-            },
+            (b'=', entries) => ArrayVec::try_from(entries)
+                .map(Ok)
+                .map_err(|_| Uncompared::NotRead),
             (b'!', [refusal]) => Ok(Err(Written(*refusal))),
             _ => Err(Uncompared::NotRead),
         }

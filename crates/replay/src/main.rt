@@ -19,8 +19,6 @@ mod vectors;
 mod whole_numbers;
 mod words;
 
-ghost use Rattle.std.specs.Prelude.{◌≤◌, length, IfOk};
-
 use line::replayed;
 use std::io;
 use std::io::Read;
@@ -35,35 +33,19 @@ fn main(rt: HostRuntime) -> io::Result<()> {
     read_array(&rt, &mut text)
 }
 
-// The same, with room for the list. Where the array of this length stands itself, the check can't follow it as a slice.
+// The same, with room for the list. The check can't follow an array of this length as a slice where it is made.
 fn read_array(rt: &(impl Input + Print), text: &mut [u8; LENGTH]) -> io::Result<()> {
     read_slice(rt, text)
 }
 
 // The same, with room of any length.
 fn read_slice(rt: &(impl Input + Print), text: &mut [u8]) -> io::Result<()> {
-    let n = read_full(rt, text)?;
+    let read = io::copy(&mut rt.reader().take(text.len() as u64), &mut &mut *text)?;
+    let n = text.len().min(read as usize);
     if n == text.len() {
         return println!(rt; "the list is too long");
     }
     report::report(rt, &counted(&text[..n]))
-}
-
-// Reads until the room is full or the input ends: how many bytes there are. The program `records` has the same function:
-// in a library that both use each promise decides its outcome, and no contract can say what a read gives.
-fn read_full(rt: &impl Input, text: &mut [u8]) -> io::Result<usize>
-    ensures { IfOk result (λ n. n ≤ length text.new) }
-{
-    let mut input = rt.reader();
-    let mut n = 0;
-    for _ in 0..u64::MAX {
-        let got = input.read(&mut text[n..])?;
-        if got == 0 {
-            return Ok(n);
-        }
-        n += got;
-    }
-    Ok(n)
 }
 
 // What the lines come to, without those that are empty or a comment.

@@ -47,7 +47,7 @@ fn first(room: &mut [f64], count: usize) -> Result<&mut [f64], Uncompared> {
 // Fills these places with the numbers of the next words.
 fn numbers(line: &mut Line<'_>, places: &mut [f64]) -> Result<(), Uncompared> {
     for place in places.iter_mut() {
-        *place = bits::number(line.number().ok_or(Uncompared::NotRead)?);
+        *place = bits::number(line.number()?);
     }
     Ok(())
 }
@@ -81,7 +81,7 @@ fn stated(mut line: Line<'_>, expected: &mut [f64]) -> Result<Result<(), Written
             numbers(&mut line, expected)?;
             Ok(())
         }
-        b'!' => match line.number().ok_or(Uncompared::NotRead)? {
+        b'!' => match line.number()? {
             0 => Ok(()),
             refusal => Err(Written(refusal)),
         },
