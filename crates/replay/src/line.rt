@@ -53,8 +53,8 @@ fn done(operation: Operation, order: Order, words: Words<'_>) -> Option<Answer> 
     }
 }
 
-// An operation of order 2, of whichever group has it. Each order has functions of its own, here and in the files of the groups, since each
-// record has most of these operations for itself, in no trait, and no two orders have the same ones.
+// An operation of order 2, of whichever group has it. Each order has functions of its own, here and in the files of the groups, for what
+// is in no trait: each record has it for itself, and no two orders have the same of it.
 fn order2(operation: Operation, words: Words<'_>) -> Option<Answer> {
     vectors::order2(operation, words)
         .or_else(|| builders::order2(operation, words))
