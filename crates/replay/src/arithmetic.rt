@@ -1,4 +1,4 @@
-// Sums, scalar forms and products, by their numbers.
+// Sums, scalar forms and products.
 use crate::answer::{Answer, given};
 use crate::table::Operation;
 use crate::words::Words;

@@ -1,4 +1,4 @@
-// The operations of vectors, by their numbers.
+// The operations of vectors.
 use crate::answer::{Answer, given, of_vector3};
 use crate::table::Operation;
 use crate::words::Words;
