@@ -1,4 +1,4 @@
-// Builders, arrays both ways and embeddings, by their numbers.
+// Builders, arrays both ways and embeddings.
 use crate::answer::{Answer, given};
 use crate::table::Operation;
 use crate::words::Words;

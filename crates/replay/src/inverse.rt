@@ -1,4 +1,4 @@
-// Determinants and inverses, by their numbers.
+// Determinants and inverses.
 use crate::answer::{Answer, given, of_matrix2, of_matrix3, of_matrix4};
 use crate::table::Operation;
 use crate::words::Words;

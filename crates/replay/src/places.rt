@@ -1,4 +1,4 @@
-// Row, diagonal, transpose and the swaps, by their numbers.
+// Row, diagonal, transpose and the swaps.
 use crate::answer::{
     Answer, given, of_matrix2, of_matrix3, of_matrix4, of_vector2, of_vector3, of_vector4,
 };

@@ -1,4 +1,4 @@
-// Rotations, by their numbers: the sine, the cosine, and the axis where there is one.
+// Rotations: the sine, the cosine, and the axis where there is one.
 use crate::answer::{Answer, given};
 use crate::table::Operation;
 use crate::words::Words;

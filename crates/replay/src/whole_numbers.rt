@@ -1,4 +1,4 @@
-// The exact engine, by the numbers of what it answers.
+// The exact engine.
 use crate::answer::{Answer, of_number, of_undoable};
 use crate::table::Operation;
 use crate::words::Words;
