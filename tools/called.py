@@ -92,7 +92,7 @@ def bodies(crate):
             imports[module].update((of, name) for name in re.findall(r"\w+", listed))
         owner, lines, at = "", text.split("\n"), None
         for line in lines:
-            if head := re.match(r"impl(?:<[^>]*>)? (?:[\w:<>]+ for )?(\w+)|\}", line):
+            if head := re.match(r"(?:impl(?:<[^>]*>)?|(?:pub )?trait) (?:[\w:<>]+ for )?\[?(\w+)|\}", line):
                 owner = head.group(1) or ""
             if head := re.match(r"\s*(?:pub(?:\([^)]*\))? )?(?:extern \"C\" |extern  )?fn (\w+)", line):
                 at = (module, owner, head.group(1))
@@ -116,7 +116,9 @@ def unreached(crate, starts):
         here = waiting.pop()
         for f in of.keys() - found:
             module, owner, name = f
-            ways = [rf"\.{name}\s*\(", rf"\b(?:{owner}|Self)::{name}\b"] if owner else [rf"\b{module}::{name}\b"]
+            ways = [rf"\.{name}\s*\(", rf"\b(?:{owner}|Self|[A-Z])::{name}\b"] if owner else [rf"\b{module}::{name}\b"]
+            if name == "fmt":
+                ways.append(r"\b(?:println|print|write|format_args)!")
             if not owner and (module == here[0] or (module, name) in imports[here[0]]):
                 ways.append(rf"(?<![\w.:]){name}\b")
             if any(re.search(way, of[here]) for way in ways):

@@ -1,34 +1,35 @@
-// Determinants and inverses, by their numbers.
-use crate::answer::Answer;
-use crate::table::{DETERMINANT, INVERT, PLANTED};
-use crate::words::{ROOM, matrix2_at, matrix3_at, matrix4_at};
+// Determinants and inverses.
+use crate::answer::{Answer, given, of_matrix2, of_matrix3, of_matrix4};
+use crate::table::Operation;
+use crate::words::Words;
+use matrix::{Matrix2, Matrix3, Matrix4};
 
 // A determinant or an inverse of order 2.
-pub(crate) fn order2(operation: usize, words: &[u64; ROOM]) -> Answer {
-    let m = matrix2_at(words, 0);
+pub(crate) fn order2(operation: Operation, mut words: Words<'_>) -> Option<Answer> {
+    let m: Matrix2 = words.read();
     match operation {
-        DETERMINANT | PLANTED => Answer::number(m.determinant()),
-        INVERT => Answer::of_matrix2(m.invert()),
-        _ => Answer::unknown(),
+        Operation::Determinant | Operation::Planted => given(m.determinant()),
+        Operation::Invert => of_matrix2(m.invert()),
+        _ => None,
     }
 }
 
 // A determinant or an inverse of order 3.
-pub(crate) fn order3(operation: usize, words: &[u64; ROOM]) -> Answer {
-    let m = matrix3_at(words, 0);
+pub(crate) fn order3(operation: Operation, mut words: Words<'_>) -> Option<Answer> {
+    let m: Matrix3 = words.read();
     match operation {
-        DETERMINANT => Answer::number(m.determinant()),
-        INVERT => Answer::of_matrix3(m.invert()),
-        _ => Answer::unknown(),
+        Operation::Determinant => given(m.determinant()),
+        Operation::Invert => of_matrix3(m.invert()),
+        _ => None,
     }
 }
 
 // A determinant or an inverse of order 4.
-pub(crate) fn order4(operation: usize, words: &[u64; ROOM]) -> Answer {
-    let m = matrix4_at(words, 0);
+pub(crate) fn order4(operation: Operation, mut words: Words<'_>) -> Option<Answer> {
+    let m: Matrix4 = words.read();
     match operation {
-        DETERMINANT => Answer::number(m.determinant()),
-        INVERT => Answer::of_matrix4(m.invert()),
-        _ => Answer::unknown(),
+        Operation::Determinant => given(m.determinant()),
+        Operation::Invert => of_matrix4(m.invert()),
+        _ => None,
     }
 }

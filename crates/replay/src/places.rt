@@ -1,64 +1,67 @@
-// Row, diagonal, transpose and the swaps, by their numbers.
-use crate::answer::Answer;
-use crate::table::{DIAGONAL, ROW, SWAP_COLUMNS, SWAP_ELEMENTS, SWAP_ROWS, TRANSPOSE};
-use crate::words::{ROOM, column_at, matrix2_at, matrix3_at, matrix4_at, row_at};
+// Row, diagonal, transpose and the swaps.
+use crate::answer::{
+    Answer, given, of_matrix2, of_matrix3, of_matrix4, of_vector2, of_vector3, of_vector4,
+};
+use crate::table::Operation;
+use crate::words::Words;
+use matrix::{Matrix2, Matrix3, Matrix4};
 
 // A row, a diagonal, a transpose or a swap of order 2.
-pub(crate) fn order2(operation: usize, words: &[u64; ROOM]) -> Answer {
-    let m = matrix2_at(words, 0);
+pub(crate) fn order2(operation: Operation, mut words: Words<'_>) -> Option<Answer> {
+    let m: Matrix2 = words.read();
     let result = match operation {
-        SWAP_ROWS => m.swap_rows(row_at(words, 4), row_at(words, 5)),
-        SWAP_COLUMNS => m.swap_columns(column_at(words, 4), column_at(words, 5)),
-        SWAP_ELEMENTS => m.swap_elements(
-            column_at(words, 4),
-            row_at(words, 5),
-            column_at(words, 6),
-            row_at(words, 7),
+        Operation::SwapRows => m.swap_rows(words.read(), words.read()),
+        Operation::SwapColumns => m.swap_columns(words.read(), words.read()),
+        Operation::SwapElements => m.swap_elements(
+            words.read(),
+            words.read(),
+            words.read(),
+            words.read(),
         ),
-        ROW => return Answer::of_vector2(m.row(row_at(words, 4))),
-        DIAGONAL => return Answer::vector2(m.diagonal()),
-        TRANSPOSE => return Answer::matrix2(m.transpose()),
-        _ => return Answer::unknown(),
+        Operation::Row => return of_vector2(m.row(words.read())),
+        Operation::Diagonal => return given(m.diagonal()),
+        Operation::Transpose => return given(m.transpose()),
+        _ => return None,
     };
-    Answer::of_matrix2(result)
+    of_matrix2(result)
 }
 
 // A row, a diagonal, a transpose or a swap of order 3.
-pub(crate) fn order3(operation: usize, words: &[u64; ROOM]) -> Answer {
-    let m = matrix3_at(words, 0);
+pub(crate) fn order3(operation: Operation, mut words: Words<'_>) -> Option<Answer> {
+    let m: Matrix3 = words.read();
     let result = match operation {
-        SWAP_ROWS => m.swap_rows(row_at(words, 9), row_at(words, 10)),
-        SWAP_COLUMNS => m.swap_columns(column_at(words, 9), column_at(words, 10)),
-        SWAP_ELEMENTS => m.swap_elements(
-            column_at(words, 9),
-            row_at(words, 10),
-            column_at(words, 11),
-            row_at(words, 12),
+        Operation::SwapRows => m.swap_rows(words.read(), words.read()),
+        Operation::SwapColumns => m.swap_columns(words.read(), words.read()),
+        Operation::SwapElements => m.swap_elements(
+            words.read(),
+            words.read(),
+            words.read(),
+            words.read(),
         ),
-        ROW => return Answer::of_vector3(m.row(row_at(words, 9))),
-        DIAGONAL => return Answer::vector3(m.diagonal()),
-        TRANSPOSE => return Answer::matrix3(m.transpose()),
-        _ => return Answer::unknown(),
+        Operation::Row => return of_vector3(m.row(words.read())),
+        Operation::Diagonal => return given(m.diagonal()),
+        Operation::Transpose => return given(m.transpose()),
+        _ => return None,
     };
-    Answer::of_matrix3(result)
+    of_matrix3(result)
 }
 
 // A row, a diagonal, a transpose or a swap of order 4.
-pub(crate) fn order4(operation: usize, words: &[u64; ROOM]) -> Answer {
-    let m = matrix4_at(words, 0);
+pub(crate) fn order4(operation: Operation, mut words: Words<'_>) -> Option<Answer> {
+    let m: Matrix4 = words.read();
     let result = match operation {
-        SWAP_ROWS => m.swap_rows(row_at(words, 16), row_at(words, 17)),
-        SWAP_COLUMNS => m.swap_columns(column_at(words, 16), column_at(words, 17)),
-        SWAP_ELEMENTS => m.swap_elements(
-            column_at(words, 16),
-            row_at(words, 17),
-            column_at(words, 18),
-            row_at(words, 19),
+        Operation::SwapRows => m.swap_rows(words.read(), words.read()),
+        Operation::SwapColumns => m.swap_columns(words.read(), words.read()),
+        Operation::SwapElements => m.swap_elements(
+            words.read(),
+            words.read(),
+            words.read(),
+            words.read(),
         ),
-        ROW => return Answer::of_vector4(m.row(row_at(words, 16))),
-        DIAGONAL => return Answer::vector4(m.diagonal()),
-        TRANSPOSE => return Answer::matrix4(m.transpose()),
-        _ => return Answer::unknown(),
+        Operation::Row => return of_vector4(m.row(words.read())),
+        Operation::Diagonal => return given(m.diagonal()),
+        Operation::Transpose => return given(m.transpose()),
+        _ => return None,
     };
-    Answer::of_matrix4(result)
+    of_matrix4(result)
 }
