@@ -2,7 +2,6 @@
 // Every number handed over is 1, so every number that is written is the order.
 use crate::count::Cases;
 use Move::{Points, Vectors};
-use bulk::Moved;
 use std::{fmt, io};
 
 // How many numbers there are to hand over, and how many places in the output: as many as a byte can say.
@@ -173,8 +172,8 @@ fn holds(row: &Row) -> bool {
         Points => bulk::move_points(usize::from(order), matrix, input, written),
     };
     match (answer, refusal) {
-        (Moved::Done, None) => leaves(&out, usize::from(output), f64::from(order)),
-        (Moved::Refused(cause), Some(number)) => cause.number() == number
+        (Ok(()), None) => leaves(&out, usize::from(output), f64::from(order)),
+        (Err(cause), Some(number)) => cause.number() == number
             && leaves(&out, 0, BEFORE),
         _ => false,
     }

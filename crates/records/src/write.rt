@@ -1,13 +1,14 @@
 // What a record gives, on one line: 0, its flags in hexadecimal, glyph index, place after it, and the nine entries of its matrix, column by
 // column, each as its 64-bit pattern; or the number of the refusal.
-use component::{Component, ComponentAnswer};
+use component::{Component, Fault};
+use matrix::Matrix;
 use std::io;
 
 // What it gives.
-pub(crate) fn answer(rt: &impl Print, found: ComponentAnswer) -> io::Result<()> {
+pub(crate) fn answer(rt: &impl Print, found: Result<Component, Fault>) -> io::Result<()> {
     match found {
-        ComponentAnswer::Refused(fault) => print!(rt; " {}", fault.number())?,
-        ComponentAnswer::Given(c) => given(rt, c)?,
+        Err(fault) => print!(rt; " {}", fault.number())?,
+        Ok(c) => given(rt, c)?,
     }
     println!(rt; "")
 }

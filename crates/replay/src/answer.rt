@@ -1,11 +1,8 @@
 // What an operation answers: the bit patterns of its entries, or a refusal as the list writes it.
 use arrayvec::ArrayVec;
 use bits::pattern;
-use engine::{NumberAnswer, UndoableAnswer};
-use matrix::{Matrix2, Matrix2Answer, Matrix3, Matrix3Answer, Matrix4, Matrix4Answer};
-use vector::{
-    Place, Placed, Refusal, Vector2, Vector2Answer, Vector3, Vector3Answer, Vector4, Vector4Answer,
-};
+use matrix::{Matrix, Matrix2, Matrix3, Matrix4};
+use vector::{Place, Refusal, Vector2, Vector3, Vector4};
 
 // A refusal as the list writes it: the number of its cause, and 256 more where the second place is at fault.
 #[derive(Clone, Copy, PartialEq, Eq)]
@@ -15,7 +12,7 @@ impl From<Refusal> for Written {
     fn from(cause: Refusal) -> Written {
         let number = u64::from(cause.number());
         match cause.place() {
-            Placed::At(Place::Second) => Written(number + 256),
+            Some(Place::Second) => Written(number + 256),
             _ => Written(number),
         }
     }
@@ -115,69 +112,5 @@ pub(crate) fn answered<T: HasEntries>(answer: Result<T, Refusal>) -> Option<Answ
     Some(match answer {
         Ok(value) => Ok(value.entries()),
         Err(cause) => Err(Written::from(cause)),
-    })
-}
-
-// Two numbers or a refusal.
-pub(crate) fn of_vector2(answer: Vector2Answer) -> Option<Answer> {
-    answered(match answer {
-        Vector2Answer::Given(v) => Ok(v),
-        Vector2Answer::Refused(cause) => Err(cause),
-    })
-}
-
-// Three numbers or a refusal.
-pub(crate) fn of_vector3(answer: Vector3Answer) -> Option<Answer> {
-    answered(match answer {
-        Vector3Answer::Given(v) => Ok(v),
-        Vector3Answer::Refused(cause) => Err(cause),
-    })
-}
-
-// Four numbers or a refusal.
-pub(crate) fn of_vector4(answer: Vector4Answer) -> Option<Answer> {
-    answered(match answer {
-        Vector4Answer::Given(v) => Ok(v),
-        Vector4Answer::Refused(cause) => Err(cause),
-    })
-}
-
-// A matrix or a refusal.
-pub(crate) fn of_matrix2(answer: Matrix2Answer) -> Option<Answer> {
-    answered(match answer {
-        Matrix2Answer::Given(m) => Ok(m),
-        Matrix2Answer::Refused(cause) => Err(cause),
-    })
-}
-
-// A matrix or a refusal.
-pub(crate) fn of_matrix3(answer: Matrix3Answer) -> Option<Answer> {
-    answered(match answer {
-        Matrix3Answer::Given(m) => Ok(m),
-        Matrix3Answer::Refused(cause) => Err(cause),
-    })
-}
-
-// A matrix or a refusal.
-pub(crate) fn of_matrix4(answer: Matrix4Answer) -> Option<Answer> {
-    answered(match answer {
-        Matrix4Answer::Given(m) => Ok(m),
-        Matrix4Answer::Refused(cause) => Err(cause),
-    })
-}
-
-// A whole number or a refusal.
-pub(crate) fn of_number(answer: NumberAnswer) -> Option<Answer> {
-    answered(match answer {
-        NumberAnswer::Given(z) => Ok(z),
-        NumberAnswer::Refused(cause) => Err(cause),
-    })
-}
-
-// Yes or no, or a refusal.
-pub(crate) fn of_undoable(answer: UndoableAnswer) -> Option<Answer> {
-    answered(match answer {
-        UndoableAnswer::Given(yes) => Ok(yes),
-        UndoableAnswer::Refused(cause) => Err(cause),
     })
 }

@@ -1,27 +1,37 @@
 // Builders, arrays both ways and embeddings.
-use crate::answer::{Answer, given};
+use crate::answer::{Answer, HasEntries, given};
 use crate::table::Operation;
-use crate::words::Words;
-use matrix::{Matrix2, Matrix3, Matrix4, SquareMatrix};
+use crate::words::{Stated, Words};
+use matrix::{Matrix, Matrix2, Matrix3, Matrix4};
 
-// A builder of a matrix of order 2. What `into_array` gives is read back by `from_array`.
-pub(crate) fn order2(operation: Operation, mut words: Words<'_>) -> Option<Answer> {
-    let result = match operation {
-        Operation::Zero => Matrix2::ZERO,
-        Operation::Identity => Matrix2::IDENTITY,
-        Operation::New => new2(words),
-        Operation::FromCols => Matrix2::from_cols(words.read(), words.read()),
-        Operation::FromArray => Matrix2::from_array(words.read()),
-        Operation::IntoArray => {
-            let m: Matrix2 = words.read();
-            Matrix2::from_array(m.into_array())
+// A builder of a matrix of any order. A matrix is read by its `from_cols`; the array is what `into_array` gives of it.
+pub(crate) fn done<M, const N: usize>(operation: Operation, mut words: Words<'_>) -> Option<Answer>
+where
+    M: Matrix<N> + Stated + HasEntries,
+    M::Column: Stated,
+{
+    let result: M = match operation {
+        Operation::Zero => M::ZERO,
+        Operation::Identity => M::IDENTITY,
+        Operation::FromCols => words.read(),
+        Operation::FromArray | Operation::IntoArray => {
+            let m: M = words.read();
+            M::from_array(m.into_array())
         }
-        Operation::FromValue => Matrix2::from_value(words.read()),
-        Operation::FromDiagonal => Matrix2::from_diagonal(words.read()),
-        Operation::FromScale => Matrix2::from_scale(words.read()),
+        Operation::FromValue => M::from_value(words.read()),
+        Operation::FromDiagonal => M::from_diagonal(words.read()),
         _ => return None,
     };
     given(result)
+}
+
+// A builder that order 2 has for itself.
+pub(crate) fn own2(operation: Operation, mut words: Words<'_>) -> Option<Answer> {
+    match operation {
+        Operation::New => given(new2(words)),
+        Operation::FromScale => given(Matrix2::from_scale(words.read())),
+        _ => None,
+    }
 }
 
 // The matrix of order 2 of its entries, one by one.
@@ -30,20 +40,10 @@ fn new2(mut words: Words<'_>) -> Matrix2 {
     Matrix2::new(c0r0, c0r1, c1r0, c1r1)
 }
 
-// A builder of a matrix of order 3. What `into_array` gives is read back by `from_array`.
-pub(crate) fn order3(operation: Operation, mut words: Words<'_>) -> Option<Answer> {
+// A builder that order 3 has for itself.
+pub(crate) fn own3(operation: Operation, mut words: Words<'_>) -> Option<Answer> {
     let result = match operation {
-        Operation::Zero => Matrix3::ZERO,
-        Operation::Identity => Matrix3::IDENTITY,
         Operation::New => new3(words),
-        Operation::FromCols => Matrix3::from_cols(words.read(), words.read(), words.read()),
-        Operation::FromArray => Matrix3::from_array(words.read()),
-        Operation::IntoArray => {
-            let m: Matrix3 = words.read();
-            Matrix3::from_array(m.into_array())
-        }
-        Operation::FromValue => Matrix3::from_value(words.read()),
-        Operation::FromDiagonal => Matrix3::from_diagonal(words.read()),
         Operation::FromScale => Matrix3::from_scale(words.read()),
         Operation::FromNonuniformScale => Matrix3::from_nonuniform_scale(
             words.read(),
@@ -62,25 +62,10 @@ fn new3(mut words: Words<'_>) -> Matrix3 {
     Matrix3::new(c0r0, c0r1, c0r2, c1r0, c1r1, c1r2, c2r0, c2r1, c2r2)
 }
 
-// A builder of a matrix of order 4. What `into_array` gives is read back by `from_array`.
-pub(crate) fn order4(operation: Operation, mut words: Words<'_>) -> Option<Answer> {
+// A builder that order 4 has for itself.
+pub(crate) fn own4(operation: Operation, mut words: Words<'_>) -> Option<Answer> {
     let result = match operation {
-        Operation::Zero => Matrix4::ZERO,
-        Operation::Identity => Matrix4::IDENTITY,
         Operation::New => new4(words),
-        Operation::FromCols => Matrix4::from_cols(
-            words.read(),
-            words.read(),
-            words.read(),
-            words.read(),
-        ),
-        Operation::FromArray => Matrix4::from_array(words.read()),
-        Operation::IntoArray => {
-            let m: Matrix4 = words.read();
-            Matrix4::from_array(m.into_array())
-        }
-        Operation::FromValue => Matrix4::from_value(words.read()),
-        Operation::FromDiagonal => Matrix4::from_diagonal(words.read()),
         Operation::FromScale => Matrix4::from_scale(words.read()),
         Operation::FromNonuniformScale => Matrix4::from_nonuniform_scale(
             words.read(),

@@ -1,35 +1,26 @@
 // Determinants and inverses.
-use crate::answer::{Answer, given, of_matrix2, of_matrix3, of_matrix4};
+use crate::answer::{Answer, HasEntries, answered, given};
 use crate::table::Operation;
-use crate::words::Words;
-use matrix::{Matrix2, Matrix3, Matrix4};
+use crate::words::{Stated, Words};
+use matrix::{Invert, Matrix2};
 
-// A determinant or an inverse of order 2.
-pub(crate) fn order2(operation: Operation, mut words: Words<'_>) -> Option<Answer> {
-    let m: Matrix2 = words.read();
+// A determinant or an inverse of a matrix of any order.
+pub(crate) fn done<M: Invert + Stated + HasEntries>(
+    operation: Operation,
+    mut words: Words<'_>,
+) -> Option<Answer> {
+    let m: M = words.read();
     match operation {
-        Operation::Determinant | Operation::Planted => given(m.determinant()),
-        Operation::Invert => of_matrix2(m.invert()),
+        Operation::Determinant => given(m.determinant()),
+        Operation::Invert => answered(m.invert()),
         _ => None,
     }
 }
 
-// A determinant or an inverse of order 3.
-pub(crate) fn order3(operation: Operation, mut words: Words<'_>) -> Option<Answer> {
-    let m: Matrix3 = words.read();
+// The planted determinant, which the list has of order 2 alone.
+pub(crate) fn own2(operation: Operation, words: Words<'_>) -> Option<Answer> {
     match operation {
-        Operation::Determinant => given(m.determinant()),
-        Operation::Invert => of_matrix3(m.invert()),
-        _ => None,
-    }
-}
-
-// A determinant or an inverse of order 4.
-pub(crate) fn order4(operation: Operation, mut words: Words<'_>) -> Option<Answer> {
-    let m: Matrix4 = words.read();
-    match operation {
-        Operation::Determinant => given(m.determinant()),
-        Operation::Invert => of_matrix4(m.invert()),
+        Operation::Planted => done::<Matrix2>(Operation::Determinant, words),
         _ => None,
     }
 }

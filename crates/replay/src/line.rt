@@ -1,11 +1,12 @@
 // One line of the list: our function does what the line names, and its answer is compared.
-use crate::answer::Answer;
+use crate::answer::{Answer, HasEntries};
 use crate::list::Line;
 use crate::outcome::{Compared, Uncompared};
 use crate::table::{Operation, Order};
-use crate::words::Words;
+use crate::words::{Stated, Words};
 use crate::{arithmetic, builders, inverse, moves, places, rotations, vectors, whole_numbers};
-use matrix::{Matrix2, Matrix3, Matrix4};
+use engine::Square;
+use matrix::{Invert, Matrix, Matrix2, Matrix3, Matrix4};
 
 // What the line comes to.
 pub(crate) fn replayed(line: &[u8]) -> Result<Compared, Uncompared> {
@@ -47,42 +48,44 @@ fn single(
 // The operation of this order, done by our function, if there is one.
 fn done(operation: Operation, order: Order, words: Words<'_>) -> Option<Answer> {
     match order {
-        Order::Two => order2(operation, words),
-        Order::Three => order3(operation, words),
-        Order::Four => order4(operation, words),
+        Order::Two => shared::<Matrix2, 2>(operation, words).or(own2(operation, words)),
+        Order::Three => shared::<Matrix3, 3>(operation, words).or(own3(operation, words)),
+        Order::Four => shared::<Matrix4, 4>(operation, words).or(own4(operation, words)),
     }
 }
 
-// An operation of order 2, of whichever group has it. Each order has functions of its own, here and in the files of the groups, for what
-// is in no trait: each record has it for itself, and no two orders have the same of it.
-fn order2(operation: Operation, words: Words<'_>) -> Option<Answer> {
-    vectors::order2(operation, words)
-        .or_else(|| builders::order2(operation, words))
-        .or_else(|| places::order2(operation, words))
-        .or_else(|| arithmetic::done::<Matrix2>(operation, words))
-        .or_else(|| inverse::order2(operation, words))
-        .or_else(|| rotations::order2(operation, words))
-        .or_else(|| whole_numbers::order2(operation, words))
+// An operation that each order has, of whichever group has it: one of them at most, so all are asked.
+fn shared<M, const N: usize>(operation: Operation, words: Words<'_>) -> Option<Answer>
+where
+    M: Matrix<N> + Invert + Square + Stated + HasEntries,
+    M::Column: Stated + HasEntries,
+{
+    vectors::done::<M::Column>(operation, words)
+        .or(builders::done::<M, N>(operation, words))
+        .or(places::done::<M, N>(operation, words))
+        .or(arithmetic::done::<M>(operation, words))
+        .or(inverse::done::<M>(operation, words))
+        .or(whole_numbers::done::<M>(operation, words))
 }
 
-// An operation of order 3, of whichever group has it.
-fn order3(operation: Operation, words: Words<'_>) -> Option<Answer> {
-    vectors::order3(operation, words)
-        .or_else(|| builders::order3(operation, words))
-        .or_else(|| places::order3(operation, words))
-        .or_else(|| arithmetic::done::<Matrix3>(operation, words))
-        .or_else(|| inverse::order3(operation, words))
-        .or_else(|| rotations::order3(operation, words))
-        .or_else(|| whole_numbers::order3(operation, words))
+// An operation that order 2 has for itself. These three, and those of the groups that they name, are one for each order: no trait has
+// what they call, since each record has it with arguments of its own, or not at all.
+fn own2(operation: Operation, words: Words<'_>) -> Option<Answer> {
+    builders::own2(operation, words)
+        .or(rotations::own2(operation, words))
+        .or(inverse::own2(operation, words))
 }
 
-// An operation of order 4, of whichever group has it.
-fn order4(operation: Operation, words: Words<'_>) -> Option<Answer> {
-    vectors::order4(operation, words)
-        .or_else(|| builders::order4(operation, words))
-        .or_else(|| places::order4(operation, words))
-        .or_else(|| arithmetic::done::<Matrix4>(operation, words))
-        .or_else(|| inverse::order4(operation, words))
-        .or_else(|| rotations::order4(operation, words))
-        .or_else(|| whole_numbers::order4(operation, words))
+// An operation that order 3 has for itself.
+fn own3(operation: Operation, words: Words<'_>) -> Option<Answer> {
+    vectors::own3(operation, words)
+        .or(builders::own3(operation, words))
+        .or(rotations::own3(operation, words))
+}
+
+// An operation that order 4 has for itself.
+fn own4(operation: Operation, words: Words<'_>) -> Option<Answer> {
+    vectors::own4(operation, words)
+        .or(builders::own4(operation, words))
+        .or(rotations::own4(operation, words))
 }

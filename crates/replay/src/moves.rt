@@ -4,7 +4,6 @@ use crate::answer::Written;
 use crate::list::Line;
 use crate::outcome::{Compared, Uncompared};
 use crate::table::{Operation, Order};
-use bulk::Moved;
 
 // The most numbers of a matrix, an input or an output: 64 vectors of four, and a few more.
 const FLAT: usize = 260;
@@ -61,17 +60,10 @@ fn moved(
     output: &mut [f64],
 ) -> Result<(), Written> {
     match operation {
-        Operation::MoveVectors => done(bulk::move_vectors(order, matrix, input, output)),
-        _ => done(bulk::move_points(order, matrix, input, output)),
+        Operation::MoveVectors => bulk::move_vectors(order, matrix, input, output),
+        _ => bulk::move_points(order, matrix, input, output),
     }
-}
-
-// That a move is done, or its refusal.
-fn done(answer: Moved) -> Result<(), Written> {
-    match answer {
-        Moved::Done => Ok(()),
-        Moved::Refused(cause) => Err(Written::from(cause)),
-    }
+    .map_err(Written::from)
 }
 
 // What the rest of the line says: '=' and the numbers of the output, or '!' and a refusal, where 0 says that there is none.

@@ -5,15 +5,16 @@ use crate::words::Words;
 use matrix::{Matrix2, Matrix3, Matrix4};
 
 // A rotation of order 2.
-pub(crate) fn order2(operation: Operation, mut words: Words<'_>) -> Option<Answer> {
+pub(crate) fn own2(operation: Operation, mut words: Words<'_>) -> Option<Answer> {
     match operation {
         Operation::FromAngle => given(Matrix2::from_angle(words.read(), words.read())),
         _ => None,
     }
 }
 
-// A rotation of order 3.
-pub(crate) fn order3(operation: Operation, mut words: Words<'_>) -> Option<Answer> {
+// A rotation of order 3. It and the one of order 4 call functions of one name that no trait has: one over these two orders alone would
+// say each of the four three times over.
+pub(crate) fn own3(operation: Operation, mut words: Words<'_>) -> Option<Answer> {
     let [s, c]: [f64; 2] = words.read();
     let result = match operation {
         Operation::FromAngleX => Matrix3::from_angle_x(s, c),
@@ -26,7 +27,7 @@ pub(crate) fn order3(operation: Operation, mut words: Words<'_>) -> Option<Answe
 }
 
 // A rotation of order 4.
-pub(crate) fn order4(operation: Operation, mut words: Words<'_>) -> Option<Answer> {
+pub(crate) fn own4(operation: Operation, mut words: Words<'_>) -> Option<Answer> {
     let [s, c]: [f64; 2] = words.read();
     let result = match operation {
         Operation::FromAngleX => Matrix4::from_angle_x(s, c),
