@@ -41,7 +41,7 @@ fn comes_back(m: Matrix4, v: Vector4) -> bool {
         .is_ok_and(|inverse| same(inverse.mul_vector(m.mul_vector(v)), v))
 }
 
-// Whether two vectors have the same entries.
+// Whether two vectors have the same entries, bit for bit, any NaN the same as any NaN: the derived == takes -0.0 for 0.0, and no NaN for itself.
 fn same(a: Vector4, b: Vector4) -> bool {
     bits::same(a.x, b.x) && bits::same(a.y, b.y) && bits::same(a.z, b.z) && bits::same(a.w, b.w)
 }

@@ -84,6 +84,7 @@ impl HasEntries for Vector4 {
     }
 }
 
+// Each record has these two lines of its own: one impl for all that is Matrix<N> would leave N open.
 impl HasEntries for Matrix2 {
     fn entries(self) -> Entries {
         patterns(self.into_array().as_flattened())

@@ -19,33 +19,23 @@ mod vectors;
 mod whole_numbers;
 mod words;
 
+use arrayvec::ArrayVec;
 use line::replayed;
 use std::io;
 use std::io::Read;
 use tally::Tally;
 
-// How many bytes of the list are read at most.
+// How many bytes of the list are read at most; a list of as many is too long.
 const LENGTH: usize = 2097152;
 
 // Reads the list from the standard input, and writes the report.
 fn main(rt: HostRuntime) -> io::Result<()> {
-    let mut text = [0u8; LENGTH];
-    read_array(&rt, &mut text)
-}
-
-// The same, with room for the list. The check can't follow an array of this length as a slice where it is made.
-fn read_array(rt: &(impl Input + Print), text: &mut [u8; LENGTH]) -> io::Result<()> {
-    read_slice(rt, text)
-}
-
-// The same, with room of any length.
-fn read_slice(rt: &(impl Input + Print), text: &mut [u8]) -> io::Result<()> {
-    let read = io::copy(&mut rt.reader().take(text.len() as u64), &mut &mut *text)?;
-    let n = text.len().min(read as usize);
-    if n == text.len() {
+    let mut list = ArrayVec::<u8, LENGTH>::new();
+    io::copy(&mut rt.reader().take(LENGTH as u64), &mut list)?;
+    if list.is_full() {
         return println!(rt; "the list is too long");
     }
-    report::report(rt, &counted(&text[..n]))
+    report::report(&rt, &counted(list.as_slice()))
 }
 
 // What the lines come to, without those that are empty or a comment.

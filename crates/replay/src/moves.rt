@@ -83,7 +83,7 @@ fn stated(mut line: Line<'_>, expected: &mut [f64]) -> Result<Result<(), Written
     Ok(answer)
 }
 
-// Whether two outputs are the same, bit for bit.
+// Whether two outputs of one length are the same, bit for bit, any NaN the same as any NaN: == on f64 takes -0.0 for 0.0, and no NaN for itself.
 fn same(a: &[f64], b: &[f64]) -> bool {
     a.iter().zip(b).all(|(a, b)| bits::same(*a, *b))
 }

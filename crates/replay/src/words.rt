@@ -59,6 +59,7 @@ impl<T: Stated, const N: usize> Stated for [T; N] {
     }
 }
 
+// The records are made each by the function of its own that takes as many entries, or columns, as it has.
 impl Stated for Vector2 {
     fn stated(words: &mut Words<'_>) -> Vector2 {
         let [x, y]: [f64; 2] = words.read();
