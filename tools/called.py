@@ -138,9 +138,9 @@ def main():
     for name in functions:
         if name not in IN_PLACE and name not in by_programs:
             bad.append(f"{name} is called by neither {' nor '.join(PROGRAMS)}")
-    # a method of a trait is called at one record at least, or by another method of a trait
+    # a method of a trait is called at one record at least, or by another method of a trait; an impl's name is the record's, the trait's and its numbers
     methods = [(crate, *method) for crate in libraries() for method in of_traits(crate)]
-    called_at = {re.sub(r"^\w+::[A-Z]\w*?[234](?=[A-Z])", "", name) for name in by_programs}
+    called_at = {re.sub(r"^\w+::[A-Z]\w*?[234]([A-Z]\w*?)\d*::", r"\1::", name) for name in by_programs}
     for crate, trait, name, by_trait in methods:
         if f"{trait}::{name}" not in called_at and not by_trait:
             bad.append(f"{name} of {crate}'s trait {trait} is called by neither {' nor '.join(PROGRAMS)}")

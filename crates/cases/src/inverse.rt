@@ -22,7 +22,10 @@ pub(crate) fn run<R: Print>(cases: &mut Cases<'_, R>) -> io::Result<()> {
 fn underflow<R: Print>(cases: &mut Cases<'_, R>) -> io::Result<()> {
     let m = Matrix2::new(1.0e-200, 0.0, 0.0, 1.0e-200);
     cases.case("determinant of 1e-200", bits::same(m.determinant(), 0.0))?;
-    cases.case("inverse of 1e-200 refused", m.invert() == Err(Refusal::Singular))
+    cases.case(
+        "inverse of 1e-200 refused",
+        m.invert() == Err(Refusal::Singular),
+    )
 }
 
 // At order 4 a vector with entries to 64 comes back, and one with larger entries need not.

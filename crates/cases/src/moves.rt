@@ -173,8 +173,7 @@ fn holds(row: &Row) -> bool {
     };
     match (answer, refusal) {
         (Ok(()), None) => leaves(&out, usize::from(output), f64::from(order)),
-        (Err(cause), Some(number)) => cause.number() == number
-            && leaves(&out, 0, BEFORE),
+        (Err(cause), Some(number)) => cause.number() == number && leaves(&out, 0, BEFORE),
         _ => false,
     }
 }

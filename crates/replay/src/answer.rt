@@ -84,7 +84,7 @@ impl HasEntries for Vector4 {
     }
 }
 
-// Each record has these two lines of its own: one impl for all that is Matrix<N> would leave N open.
+// An impl for each order: in one for every M: Matrix<N> nothing would say which N, and the check refuses it.
 impl HasEntries for Matrix2 {
     fn entries(self) -> Entries {
         patterns(self.into_array().as_flattened())

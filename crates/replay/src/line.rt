@@ -68,8 +68,8 @@ where
         .or(whole_numbers::done::<M>(operation, words))
 }
 
-// An operation that order 2 has for itself. These three, and those of the groups that they name, are one for each order: no trait has
-// what they call, since each record has it with arguments of its own, or not at all.
+// An operation that order 2 has for itself. These three, and what they call of the groups, are one for each order: what is done there
+// is in no trait, since no two orders have the same of it, but for the rotations of space, where the reason stands.
 fn own2(operation: Operation, words: Words<'_>) -> Option<Answer> {
     builders::own2(operation, words)
         .or(rotations::own2(operation, words))

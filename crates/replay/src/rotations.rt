@@ -12,8 +12,8 @@ pub(crate) fn own2(operation: Operation, mut words: Words<'_>) -> Option<Answer>
     }
 }
 
-// A rotation of order 3. It and the one of order 4 call functions of one name that no trait has: one over these two orders alone would
-// say each of the four three times over.
+// A rotation of order 3. That of order 4 is its twin: no trait has the four functions, and one for these two orders would name each
+// three times, where the twins name each twice.
 pub(crate) fn own3(operation: Operation, mut words: Words<'_>) -> Option<Answer> {
     let [s, c]: [f64; 2] = words.read();
     let result = match operation {

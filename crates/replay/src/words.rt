@@ -59,7 +59,7 @@ impl<T: Stated, const N: usize> Stated for [T; N] {
     }
 }
 
-// The records are made each by the function of its own that takes as many entries, or columns, as it has.
+// An impl for each record: `new` and `from_cols` take an argument for each entry or column, so no two are alike.
 impl Stated for Vector2 {
     fn stated(words: &mut Words<'_>) -> Vector2 {
         let [x, y]: [f64; 2] = words.read();
