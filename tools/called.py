@@ -56,12 +56,13 @@ def public(crate):
     return names
 
 
-def of_traits():
-    """Each method of the libraries' public traits: its trait, its name, and whether a body of a trait calls it."""
-    texts = (re.sub(r"//[^\n]*", "", open(p, encoding="utf-8").read()) for crate in libraries() for p in sorted(glob.glob(f"crates/{crate}/src/**/*.rt", recursive=True)))
-    found = [trait for text in texts for trait in re.findall(r"^pub trait (\w+)[^{]*\{(.*?)^\}", text, re.M | re.S)]
-    bodies = "".join(body for _, body in found)
-    return [(trait, name, re.search(rf"(?:\.|::){name}\(", bodies)) for trait, body in found for name in re.findall(r"^    fn (\w+)", body, re.M)]
+def of_traits(crate):
+    """Each method of the crate's public traits: the trait, the method, and whether a body of the trait itself calls it."""
+    for path in sorted(glob.glob(f"crates/{crate}/src/**/*.rt", recursive=True)):
+        text = re.sub(r"//[^\n]*", "", open(path, encoding="utf-8").read())
+        for trait, body in re.findall(r"^pub trait (\w+)[^{]*\{(.*?)^\}", text, re.M | re.S):
+            for name in re.findall(r"^    fn (\w+)", body, re.M):
+                yield trait, name, re.search(rf"(?:\.|::){name}\(", body) is not None
 
 
 def calls(crate):
@@ -91,7 +92,7 @@ def bodies(crate):
             imports[module].update((of, name) for name in re.findall(r"\w+", listed))
         owner, lines, at = "", text.split("\n"), None
         for line in lines:
-            if head := re.match(r"impl(?:<[^>]*>)? (?:[\w:<>]+ for )?(\w+)|\}", line):
+            if head := re.match(r"(?:impl(?:<[^>]*>)?|(?:pub )?trait) (?:[\w:<>]+ for )?\[?(\w+)|\}", line):
                 owner = head.group(1) or ""
             if head := re.match(r"\s*(?:pub(?:\([^)]*\))? )?(?:extern \"C\" |extern  )?fn (\w+)", line):
                 at = (module, owner, head.group(1))
@@ -115,7 +116,9 @@ def unreached(crate, starts):
         here = waiting.pop()
         for f in of.keys() - found:
             module, owner, name = f
-            ways = [rf"\.{name}\s*\(", rf"\b(?:{owner}|Self)::{name}\b"] if owner else [rf"\b{module}::{name}\b"]
+            ways = [rf"\.{name}\s*\(", rf"\b(?:{owner}|Self|[A-Z])::{name}\b"] if owner else [rf"\b{module}::{name}\b"]
+            if name == "fmt":
+                ways.append(r"\b(?:println|print|write|format_args)!")
             if not owner and (module == here[0] or (module, name) in imports[here[0]]):
                 ways.append(rf"(?<![\w.:]){name}\b")
             if any(re.search(way, of[here]) for way in ways):
@@ -135,11 +138,12 @@ def main():
     for name in functions:
         if name not in IN_PLACE and name not in by_programs:
             bad.append(f"{name} is called by neither {' nor '.join(PROGRAMS)}")
-    # a method of a trait is called at one record at least, or by a body of a trait
-    called_at = {re.sub(r"^\w+::[A-Z]\w*?[234](?=[A-Z])", "", name) for name in by_programs}
-    for trait, name, by_trait in of_traits():
+    # a method of a trait is called at one record at least, or by another method of a trait; an impl's name is the record's, the trait's and its numbers
+    methods = [(crate, *method) for crate in libraries() for method in of_traits(crate)]
+    called_at = {re.sub(r"^\w+::[A-Z]\w*?[234]([A-Z]\w*?)\d*::", r"\1::", name) for name in by_programs}
+    for crate, trait, name, by_trait in methods:
         if f"{trait}::{name}" not in called_at and not by_trait:
-            bad.append(f"{name} of the trait {trait} is called by neither {' nor '.join(PROGRAMS)}")
+            bad.append(f"{name} of {crate}'s trait {trait} is called by neither {' nor '.join(PROGRAMS)}")
     handed_on, exported, by_exports = public(BOUNDARY), public(EXPORTS), calls(EXPORTS)
     bad += [f"{name} is not called by {EXPORTS}" for name in handed_on if name not in by_exports]
     bad += [f"{f} of {BOUNDARY}, as far as the sources show" for f in unreached(BOUNDARY, [name.split("::")[-1] for name in handed_on])]

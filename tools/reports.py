@@ -124,9 +124,8 @@ def reports():
 
 
 def table():
-    width = max(map(len, LINES)) + 1
-    rows = "".join('    *b"' + (line + "|").ljust(width).replace("\t", "\\t").replace("\r", "\\r") + '",\n' for line in LINES)
-    return f"const LINES: [[u8; {width}]; {len(LINES)}] = [\n{rows}];\n"
+    rows = "".join('    "' + line.replace("\t", "\\t").replace("\r", "\\r") + '",\n' for line in LINES)
+    return f"const LINES: [&str; {len(LINES)}] = [\n{rows}];\n"
 
 
 def stdin():

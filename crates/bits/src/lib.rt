@@ -5,25 +5,20 @@ ghost use Rattle.std.specs.Prelude.{◌≡◌, eqb};
 ghost use Rattle.std.specs.Float.{binary64};
 ghost use Rattle.std.specs.Float.Ieee.{of_bits, to_bits};
 
-// The pattern that stands for every NaN.
-const NAN: u64 = 0x7ff8_0000_0000_0000;
+use std::num::{f64_from_bits_with_nan, f64_to_bits_with_nan};
 
 // The pattern of a number.
 pub fn pattern(x: f64) -> u64
     ensures { result ≡ to_bits binary64 x }
 {
-    if x != x { NAN } else { f64::to_bits(x) }
+    f64_to_bits_with_nan(x)
 }
 
 // The number of a pattern: a NaN for each of a NaN's.
 pub fn number(bits: u64) -> f64
     ensures { result ≡ of_bits binary64 bits }
 {
-    if bits % 0x8000_0000_0000_0000 > 0x7ff0_0000_0000_0000 {
-        0.0 / 0.0
-    } else {
-        f64::from_bits(bits)
-    }
+    f64_from_bits_with_nan(bits)
 }
 
 // Whether two numbers are the same, bit for bit, any NaN the same as any NaN.

@@ -1,42 +1,43 @@
 // How many cases ran and how many of them failed.
+use std::fmt::Display;
 use std::io;
 
-// The two counts.
+// The two counts, and what the cases are written to.
 #[derive(Drop)]
-pub(crate) struct Count {
-    pub run: u32,
-    pub failed: u32,
+pub(crate) struct Cases<'a, R> {
+    rt: &'a R,
+    run: u32,
+    failed: u32,
 }
 
-impl Count {
+impl<'a, R: Print> Cases<'a, R> {
     // Nothing has run yet.
-    pub(crate) fn new() -> Count {
-        Count { run: 0, failed: 0 }
-    }
-
-    // One case more; its name is written, and whether its answer was the expected one.
-    pub(crate) fn case(self, rt: &impl Print, name: &[u8], holds: bool) -> io::Result<Count> {
-        rt.write_all(name)?;
-        let run = self.run.wrapping_add(1);
-        if holds {
-            rt.write_all(b": ok\n")?;
-            Ok(Count {
-                run,
-                failed: self.failed,
-            })
-        } else {
-            rt.write_all(b": FAILED\n")?;
-            Ok(Count {
-                run,
-                failed: self.failed.wrapping_add(1),
-            })
+    pub(crate) fn new(rt: &'a R) -> Cases<'a, R> {
+        Cases {
+            rt,
+            run: 0,
+            failed: 0,
         }
     }
 
+    // One case more; its name is written, and whether its answer was the expected one.
+    pub(crate) fn case(&mut self, name: impl Display + Drop, holds: bool) -> io::Result<()> {
+        self.run = self.run.wrapping_add(1);
+        if holds {
+            println!(self.rt; "{name}: ok")
+        } else {
+            self.failed = self.failed.wrapping_add(1);
+            println!(self.rt; "{name}: FAILED")
+        }
+    }
+
+    // What a case gives, written as it is.
+    pub(crate) fn show(&self, bytes: &[u8]) -> io::Result<()> {
+        self.rt.write_all(bytes)
+    }
+
     // The counts on a line.
-    pub(crate) fn print(self, rt: &impl Print) -> io::Result<()> {
-        let run = self.run;
-        let failed = self.failed;
-        println!(rt; "{run} cases run, {failed} failed")
+    pub(crate) fn print(&self) -> io::Result<()> {
+        println!(self.rt; "{} cases run, {} failed", self.run, self.failed)
     }
 }

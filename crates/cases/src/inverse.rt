@@ -1,9 +1,8 @@
 // Document 01, 'Reference cases, both sides of each edge': the inverse that is run only. And the way there and back, which is two calls and so no line of the list.
-use crate::count::Count;
-use engine::NumberAnswer;
-use matrix::{Matrix2, Matrix2Answer, Matrix4, Matrix4Answer, SquareMatrix};
+use crate::count::Cases;
+use matrix::{Invert, Matrix, Matrix2, Matrix4, SquareMatrix};
 use std::io;
-use vector::Vector4;
+use vector::{Refusal, Vector4};
 
 // A matrix of whole entries to 1024, of sum 2^41.
 const STEEP: [[f64; 4]; 4] = [
@@ -14,60 +13,38 @@ const STEEP: [[f64; 4]; 4] = [
 ];
 
 // Every case of this file.
-pub(crate) fn run(rt: &impl Print, c: Count) -> io::Result<Count> {
-    past_the_limit(rt, underflow(rt, c)?)
+pub(crate) fn run<R: Print>(cases: &mut Cases<'_, R>) -> io::Result<()> {
+    underflow(cases)?;
+    past_the_limit(cases)
 }
 
 // The diagonal of 1e-200: the float determinant underflows to 0.
-fn underflow(rt: &impl Print, c: Count) -> io::Result<Count> {
+fn underflow<R: Print>(cases: &mut Cases<'_, R>) -> io::Result<()> {
     let m = Matrix2::new(1.0e-200, 0.0, 0.0, 1.0e-200);
-    let c = c.case(
-        rt,
-        b"determinant of 1e-200",
-        bits::same(m.determinant(), 0.0),
-    )?;
-    c.case(rt, b"inverse of 1e-200 refused", singular(m.invert()))
-}
-
-// Whether the inverse was refused with 2.
-fn singular(answer: Matrix2Answer) -> bool {
-    match answer {
-        Matrix2Answer::Given(_) => false,
-        Matrix2Answer::Refused(cause) => cause.number() == 2,
-    }
+    cases.case("determinant of 1e-200", bits::same(m.determinant(), 0.0))?;
+    cases.case(
+        "inverse of 1e-200 refused",
+        m.invert() == Err(Refusal::Singular),
+    )
 }
 
 // At order 4 a vector with entries to 64 comes back, and one with larger entries need not.
-fn past_the_limit(rt: &impl Print, c: Count) -> io::Result<Count> {
+fn past_the_limit<R: Print>(cases: &mut Cases<'_, R>) -> io::Result<()> {
     let m = Matrix4::from_array(STEEP);
-    let c = c.case(
-        rt,
-        b"signed sum of 2^41",
-        gives(engine::signed_sum4(m), 2199023255552),
-    )?;
+    cases.case("signed sum of 2^41", engine::signed_sum(m) == Ok(1 << 41))?;
     let near = Vector4::new(-64.0, -63.0, 64.0, 61.0);
-    let c = c.case(rt, b"there and back within 64", comes_back(m, near))?;
+    cases.case("there and back within 64", comes_back(m, near))?;
     let far = Vector4::new(-931.0, -941.0, 947.0, 923.0);
-    c.case(rt, b"not back past 64", !comes_back(m, far))
-}
-
-// Whether the engine gives this whole number.
-fn gives(answer: NumberAnswer, expected: i64) -> bool {
-    match answer {
-        NumberAnswer::Given(got) => got == expected,
-        NumberAnswer::Refused(_) => false,
-    }
+    cases.case("not back past 64", !comes_back(m, far))
 }
 
 // Whether the vector, moved by the matrix and back by its inverse, is the same vector; not so where there is no inverse.
 fn comes_back(m: Matrix4, v: Vector4) -> bool {
-    match m.invert() {
-        Matrix4Answer::Given(inverse) => same(inverse.mul_vector(m.mul_vector(v)), v),
-        Matrix4Answer::Refused(_) => false,
-    }
+    m.invert()
+        .is_ok_and(|inverse| same(inverse.mul_vector(m.mul_vector(v)), v))
 }
 
-// Whether two vectors have the same entries.
+// Whether two vectors have the same entries, bit for bit, any NaN the same as any NaN: the derived == takes -0.0 for 0.0, and no NaN for itself.
 fn same(a: Vector4, b: Vector4) -> bool {
     bits::same(a.x, b.x) && bits::same(a.y, b.y) && bits::same(a.z, b.z) && bits::same(a.w, b.w)
 }

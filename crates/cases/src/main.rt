@@ -9,14 +9,15 @@ mod magnitudes;
 mod moves;
 mod reports;
 
-use count::Count;
+use count::Cases;
 use std::io;
 
 fn main(rt: HostRuntime) -> io::Result<()> {
-    let c = constants::run(&rt, Count::new())?;
-    let c = magnitudes::run(&rt, c)?;
-    let c = inverse::run(&rt, c)?;
-    let c = moves::run(&rt, c)?;
-    let c = reports::run(&rt, c)?;
-    c.print(&rt)
+    let mut cases = Cases::new(&rt);
+    constants::run(&mut cases)?;
+    magnitudes::run(&mut cases)?;
+    inverse::run(&mut cases)?;
+    moves::run(&mut cases)?;
+    reports::run(&mut cases)?;
+    cases.print()
 }

@@ -1,190 +1,95 @@
-// Builders, arrays both ways and embeddings, by their numbers.
-use crate::answer::Answer;
-use crate::table::{
-    FROM_ARRAY, FROM_COLS, FROM_DIAGONAL, FROM_MATRIX2, FROM_MATRIX3, FROM_NONUNIFORM_SCALE,
-    FROM_SCALE, FROM_TRANSLATION, FROM_VALUE, IDENTITY, INTO_ARRAY, NEW, ZERO,
-};
-use crate::words::{
-    ROOM, matrix2_at, matrix3_at, matrix4_at, number_at, vector2_at, vector3_at, vector4_at,
-};
-use matrix::{Matrix2, Matrix3, Matrix4, SquareMatrix};
+// Builders, arrays both ways and embeddings.
+use crate::answer::{Answer, HasEntries, given};
+use crate::table::Operation;
+use crate::words::{Stated, Words};
+use matrix::{Matrix, Matrix2, Matrix3, Matrix4};
 
-// A builder of a matrix of order 2. What `into_array` gives is read back by `from_array`.
-pub(crate) fn order2(operation: usize, words: &[u64; ROOM]) -> Answer {
-    let result = match operation {
-        ZERO => Matrix2::ZERO,
-        IDENTITY => Matrix2::IDENTITY,
-        NEW => new2(words),
-        FROM_COLS => Matrix2::from_cols(vector2_at(words, 0), vector2_at(words, 2)),
-        FROM_ARRAY => Matrix2::from_array(array2(words)),
-        INTO_ARRAY => Matrix2::from_array(matrix2_at(words, 0).into_array()),
-        FROM_VALUE => Matrix2::from_value(number_at(words, 0)),
-        FROM_DIAGONAL => Matrix2::from_diagonal(vector2_at(words, 0)),
-        FROM_SCALE => Matrix2::from_scale(number_at(words, 0)),
-        _ => return Answer::unknown(),
+// A builder of a matrix of any order. A matrix is read by its `from_cols`; the array is what `into_array` gives of it.
+pub(crate) fn done<M, const N: usize>(operation: Operation, mut words: Words<'_>) -> Option<Answer>
+where
+    M: Matrix<N> + Stated + HasEntries,
+    M::Column: Stated,
+{
+    let result: M = match operation {
+        Operation::Zero => M::ZERO,
+        Operation::Identity => M::IDENTITY,
+        Operation::FromCols => words.read(),
+        Operation::FromArray | Operation::IntoArray => {
+            let m: M = words.read();
+            M::from_array(m.into_array())
+        }
+        Operation::FromValue => M::from_value(words.read()),
+        Operation::FromDiagonal => M::from_diagonal(words.read()),
+        _ => return None,
     };
-    Answer::matrix2(result)
+    given(result)
+}
+
+// A builder that order 2 has for itself.
+pub(crate) fn own2(operation: Operation, mut words: Words<'_>) -> Option<Answer> {
+    match operation {
+        Operation::New => given(new2(words)),
+        Operation::FromScale => given(Matrix2::from_scale(words.read())),
+        _ => None,
+    }
 }
 
 // The matrix of order 2 of its entries, one by one.
-fn new2(words: &[u64; ROOM]) -> Matrix2 {
-    Matrix2::new(
-        number_at(words, 0),
-        number_at(words, 1),
-        number_at(words, 2),
-        number_at(words, 3),
-    )
+fn new2(mut words: Words<'_>) -> Matrix2 {
+    let [[c0r0, c0r1], [c1r0, c1r1]]: [[f64; 2]; 2] = words.read();
+    Matrix2::new(c0r0, c0r1, c1r0, c1r1)
 }
 
-// The array of 2 columns.
-fn array2(words: &[u64; ROOM]) -> [[f64; 2]; 2] {
-    [
-        [number_at(words, 0), number_at(words, 1)],
-        [number_at(words, 2), number_at(words, 3)],
-    ]
-}
-
-// A builder of a matrix of order 3. What `into_array` gives is read back by `from_array`.
-pub(crate) fn order3(operation: usize, words: &[u64; ROOM]) -> Answer {
+// A builder that order 3 has for itself.
+pub(crate) fn own3(operation: Operation, mut words: Words<'_>) -> Option<Answer> {
     let result = match operation {
-        ZERO => Matrix3::ZERO,
-        IDENTITY => Matrix3::IDENTITY,
-        NEW => new3(words),
-        FROM_COLS => Matrix3::from_cols(
-            vector3_at(words, 0),
-            vector3_at(words, 3),
-            vector3_at(words, 6),
+        Operation::New => new3(words),
+        Operation::FromScale => Matrix3::from_scale(words.read()),
+        Operation::FromNonuniformScale => Matrix3::from_nonuniform_scale(
+            words.read(),
+            words.read(),
         ),
-        FROM_ARRAY => Matrix3::from_array(array3(words)),
-        INTO_ARRAY => Matrix3::from_array(matrix3_at(words, 0).into_array()),
-        FROM_VALUE => Matrix3::from_value(number_at(words, 0)),
-        FROM_DIAGONAL => Matrix3::from_diagonal(vector3_at(words, 0)),
-        FROM_SCALE => Matrix3::from_scale(number_at(words, 0)),
-        FROM_NONUNIFORM_SCALE => Matrix3::from_nonuniform_scale(
-            number_at(words, 0),
-            number_at(words, 1),
-        ),
-        FROM_TRANSLATION => Matrix3::from_translation(vector2_at(words, 0)),
-        FROM_MATRIX2 => Matrix3::from_matrix2(matrix2_at(words, 0)),
-        _ => return Answer::unknown(),
+        Operation::FromTranslation => Matrix3::from_translation(words.read()),
+        Operation::FromMatrix2 => Matrix3::from(words.read::<Matrix2>()),
+        _ => return None,
     };
-    Answer::matrix3(result)
+    given(result)
 }
 
 // The matrix of order 3 of its entries, one by one.
-fn new3(words: &[u64; ROOM]) -> Matrix3 {
-    Matrix3::new(
-        number_at(words, 0),
-        number_at(words, 1),
-        number_at(words, 2),
-        number_at(words, 3),
-        number_at(words, 4),
-        number_at(words, 5),
-        number_at(words, 6),
-        number_at(words, 7),
-        number_at(words, 8),
-    )
+fn new3(mut words: Words<'_>) -> Matrix3 {
+    let [[c0r0, c0r1, c0r2], [c1r0, c1r1, c1r2], [c2r0, c2r1, c2r2]]: [[f64; 3]; 3] = words.read();
+    Matrix3::new(c0r0, c0r1, c0r2, c1r0, c1r1, c1r2, c2r0, c2r1, c2r2)
 }
 
-// The array of 3 columns.
-fn array3(words: &[u64; ROOM]) -> [[f64; 3]; 3] {
-    [
-        [
-            number_at(words, 0),
-            number_at(words, 1),
-            number_at(words, 2),
-        ],
-        [
-            number_at(words, 3),
-            number_at(words, 4),
-            number_at(words, 5),
-        ],
-        [
-            number_at(words, 6),
-            number_at(words, 7),
-            number_at(words, 8),
-        ],
-    ]
-}
-
-// A builder of a matrix of order 4. What `into_array` gives is read back by `from_array`.
-pub(crate) fn order4(operation: usize, words: &[u64; ROOM]) -> Answer {
+// A builder that order 4 has for itself.
+pub(crate) fn own4(operation: Operation, mut words: Words<'_>) -> Option<Answer> {
     let result = match operation {
-        ZERO => Matrix4::ZERO,
-        IDENTITY => Matrix4::IDENTITY,
-        NEW => new4(words),
-        FROM_COLS => Matrix4::from_cols(
-            vector4_at(words, 0),
-            vector4_at(words, 4),
-            vector4_at(words, 8),
-            vector4_at(words, 12),
+        Operation::New => new4(words),
+        Operation::FromScale => Matrix4::from_scale(words.read()),
+        Operation::FromNonuniformScale => Matrix4::from_nonuniform_scale(
+            words.read(),
+            words.read(),
+            words.read(),
         ),
-        FROM_ARRAY => Matrix4::from_array(array4(words)),
-        INTO_ARRAY => Matrix4::from_array(matrix4_at(words, 0).into_array()),
-        FROM_VALUE => Matrix4::from_value(number_at(words, 0)),
-        FROM_DIAGONAL => Matrix4::from_diagonal(vector4_at(words, 0)),
-        FROM_SCALE => Matrix4::from_scale(number_at(words, 0)),
-        FROM_NONUNIFORM_SCALE => Matrix4::from_nonuniform_scale(
-            number_at(words, 0),
-            number_at(words, 1),
-            number_at(words, 2),
-        ),
-        FROM_TRANSLATION => Matrix4::from_translation(vector3_at(words, 0)),
-        FROM_MATRIX2 => Matrix4::from_matrix2(matrix2_at(words, 0)),
-        FROM_MATRIX3 => Matrix4::from_matrix3(matrix3_at(words, 0)),
-        _ => return Answer::unknown(),
+        Operation::FromTranslation => Matrix4::from_translation(words.read()),
+        Operation::FromMatrix2 => Matrix4::from(words.read::<Matrix2>()),
+        Operation::FromMatrix3 => Matrix4::from(words.read::<Matrix3>()),
+        _ => return None,
     };
-    Answer::matrix4(result)
+    given(result)
 }
 
 // The matrix of order 4 of its entries, one by one.
-fn new4(words: &[u64; ROOM]) -> Matrix4 {
+fn new4(mut words: Words<'_>) -> Matrix4 {
+    let [
+        [c0r0, c0r1, c0r2, c0r3],
+        [c1r0, c1r1, c1r2, c1r3],
+        [c2r0, c2r1, c2r2, c2r3],
+        [c3r0, c3r1, c3r2, c3r3],
+    ]: [[f64; 4]; 4] = words.read();
     Matrix4::new(
-        number_at(words, 0),
-        number_at(words, 1),
-        number_at(words, 2),
-        number_at(words, 3),
-        number_at(words, 4),
-        number_at(words, 5),
-        number_at(words, 6),
-        number_at(words, 7),
-        number_at(words, 8),
-        number_at(words, 9),
-        number_at(words, 10),
-        number_at(words, 11),
-        number_at(words, 12),
-        number_at(words, 13),
-        number_at(words, 14),
-        number_at(words, 15),
+        c0r0, c0r1, c0r2, c0r3, c1r0, c1r1, c1r2, c1r3, c2r0, c2r1, c2r2, c2r3, c3r0, c3r1, c3r2,
+        c3r3,
     )
-}
-
-// The array of 4 columns.
-fn array4(words: &[u64; ROOM]) -> [[f64; 4]; 4] {
-    [
-        [
-            number_at(words, 0),
-            number_at(words, 1),
-            number_at(words, 2),
-            number_at(words, 3),
-        ],
-        [
-            number_at(words, 4),
-            number_at(words, 5),
-            number_at(words, 6),
-            number_at(words, 7),
-        ],
-        [
-            number_at(words, 8),
-            number_at(words, 9),
-            number_at(words, 10),
-            number_at(words, 11),
-        ],
-        [
-            number_at(words, 12),
-            number_at(words, 13),
-            number_at(words, 14),
-            number_at(words, 15),
-        ],
-    ]
 }

@@ -1,34 +1,26 @@
-// Determinants and inverses, by their numbers.
-use crate::answer::Answer;
-use crate::table::{DETERMINANT, INVERT, PLANTED};
-use crate::words::{ROOM, matrix2_at, matrix3_at, matrix4_at};
+// Determinants and inverses.
+use crate::answer::{Answer, HasEntries, answered, given};
+use crate::table::Operation;
+use crate::words::{Stated, Words};
+use matrix::{Invert, Matrix2};
 
-// A determinant or an inverse of order 2.
-pub(crate) fn order2(operation: usize, words: &[u64; ROOM]) -> Answer {
-    let m = matrix2_at(words, 0);
+// A determinant or an inverse of a matrix of any order.
+pub(crate) fn done<M: Invert + Stated + HasEntries>(
+    operation: Operation,
+    mut words: Words<'_>,
+) -> Option<Answer> {
+    let m: M = words.read();
     match operation {
-        DETERMINANT | PLANTED => Answer::number(m.determinant()),
-        INVERT => Answer::of_matrix2(m.invert()),
-        _ => Answer::unknown(),
+        Operation::Determinant => given(m.determinant()),
+        Operation::Invert => answered(m.invert()),
+        _ => None,
     }
 }
 
-// A determinant or an inverse of order 3.
-pub(crate) fn order3(operation: usize, words: &[u64; ROOM]) -> Answer {
-    let m = matrix3_at(words, 0);
+// The planted determinant, which the list has of order 2 alone.
+pub(crate) fn own2(operation: Operation, words: Words<'_>) -> Option<Answer> {
     match operation {
-        DETERMINANT => Answer::number(m.determinant()),
-        INVERT => Answer::of_matrix3(m.invert()),
-        _ => Answer::unknown(),
-    }
-}
-
-// A determinant or an inverse of order 4.
-pub(crate) fn order4(operation: usize, words: &[u64; ROOM]) -> Answer {
-    let m = matrix4_at(words, 0);
-    match operation {
-        DETERMINANT => Answer::number(m.determinant()),
-        INVERT => Answer::of_matrix4(m.invert()),
-        _ => Answer::unknown(),
+        Operation::Planted => done::<Matrix2>(Operation::Determinant, words),
+        _ => None,
     }
 }

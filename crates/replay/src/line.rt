@@ -1,103 +1,91 @@
 // One line of the list: our function does what the line names, and its answer is compared.
-ghost use Rattle.std.specs.Prelude.{◌≤◌, length};
-
-use crate::answer::{Answer, UNKNOWN};
-use crate::list::{Beginning, expected, head, words};
-use crate::outcome::Outcome;
-use crate::table::{
-    ADD, COFACTOR, COUNT, DETERMINANT, FROM_ANGLE, FROM_AXIS_ANGLE, FROM_MATRIX3, INVERT,
-    MOVE_POINTS, MOVE_VECTORS, MUL_VECTOR, PLANTED, ROW, SIGNED_SUM, SWAP_ELEMENTS, VECTOR_ADD,
-    VECTOR_TRUNCATE_N, ZERO, reads,
-};
-use crate::words::ROOM;
+use crate::answer::{Answer, HasEntries};
+use crate::list::Line;
+use crate::outcome::{Compared, Uncompared};
+use crate::table::{Operation, Order};
+use crate::words::{Stated, Words};
 use crate::{arithmetic, builders, inverse, moves, places, rotations, vectors, whole_numbers};
+use engine::Square;
+use matrix::{Invert, Matrix, Matrix2, Matrix3, Matrix4};
 
 // What the line comes to.
-pub(crate) fn replayed(line: &[u8]) -> Outcome {
-    let head = head(line);
-    let operation = head.operation;
+pub(crate) fn replayed(line: &[u8]) -> Result<Compared, Uncompared> {
+    let mut line = Line(line);
+    let operation = Operation::named(line.word());
+    let order = Order::stated(line.word());
+    line.word();
     match operation {
-        MOVE_VECTORS | MOVE_POINTS => moves::replayed(line, head),
-        _ => single(line, head),
+        Some(operation @ (Operation::MoveVectors | Operation::MovePoints)) => {
+            moves::replayed(line, operation, order)
+        }
+        _ => single(line, operation, order),
     }
 }
 
 // What a line of one operation comes to.
-fn single(line: &[u8], head: Beginning) -> Outcome
-    requires { head.next ≤ length line.now }
-{
-    let run = words(line, head.next);
-    let stated = expected(line, run.next);
-    if !stated.read {
-        return Outcome::NotRead;
+fn single(
+    mut line: Line<'_>,
+    operation: Option<Operation>,
+    order: Option<Order>,
+) -> Result<Compared, Uncompared> {
+    let words = line.numbers();
+    let theirs = line.expected()?;
+    let operation = operation.ok_or(Uncompared::NotKnown)?;
+    // Where the line states no order the words are counted as at order 4.
+    if words.len() != operation.reads(order.unwrap_or(Order::Four)) {
+        return Err(Uncompared::NotRead);
     }
-    if head.operation >= COUNT {
-        return Outcome::NotKnown;
-    }
-    if run.count != reads(head.operation, head.order) {
-        return Outcome::NotRead;
-    }
-    let values = run.values;
-    let ours = done(head.operation, head.order, &values);
-    if ours.refusal == UNKNOWN {
-        return Outcome::NotKnown;
-    }
-    let theirs = stated.answer;
-    if ours.equals(theirs) {
-        Outcome::Same(head.operation, head.order)
-    } else {
-        Outcome::Different(head.operation, head.order)
-    }
+    let ours = order
+        .and_then(|order| done(operation, order, Words(words.as_slice())))
+        .ok_or(Uncompared::NotKnown)?;
+    Ok(Compared {
+        operation,
+        order,
+        same: ours == theirs,
+    })
 }
 
-// The operation of this order, done by our function.
-fn done(operation: usize, order: usize, words: &[u64; ROOM]) -> Answer {
+// The operation of this order, done by our function, if there is one.
+fn done(operation: Operation, order: Order, words: Words<'_>) -> Option<Answer> {
     match order {
-        2 => order2(operation, words),
-        3 => order3(operation, words),
-        4 => order4(operation, words),
-        _ => Answer::unknown(),
+        Order::Two => shared::<Matrix2, 2>(operation, words).or(own2(operation, words)),
+        Order::Three => shared::<Matrix3, 3>(operation, words).or(own3(operation, words)),
+        Order::Four => shared::<Matrix4, 4>(operation, words).or(own4(operation, words)),
     }
 }
 
-// An operation of order 2, by its group.
-fn order2(operation: usize, words: &[u64; ROOM]) -> Answer {
-    match operation {
-        VECTOR_ADD..=VECTOR_TRUNCATE_N => vectors::order2(operation, words),
-        ZERO..=FROM_MATRIX3 => builders::order2(operation, words),
-        ROW..=SWAP_ELEMENTS => places::order2(operation, words),
-        ADD..=MUL_VECTOR => arithmetic::order2(operation, words),
-        DETERMINANT | INVERT | PLANTED => inverse::order2(operation, words),
-        FROM_ANGLE..=FROM_AXIS_ANGLE => rotations::order2(operation, words),
-        SIGNED_SUM..=COFACTOR => whole_numbers::order2(operation, words),
-        _ => Answer::unknown(),
-    }
+// An operation that each order has, of whichever group has it: one of them at most, so all are asked.
+fn shared<M, const N: usize>(operation: Operation, words: Words<'_>) -> Option<Answer>
+where
+    M: Matrix<N> + Invert + Square + Stated + HasEntries,
+    M::Column: Stated + HasEntries,
+{
+    vectors::done::<M::Column>(operation, words)
+        .or(builders::done::<M, N>(operation, words))
+        .or(places::done::<M, N>(operation, words))
+        .or(arithmetic::done::<M>(operation, words))
+        .or(inverse::done::<M>(operation, words))
+        .or(whole_numbers::done::<M>(operation, words))
 }
 
-// An operation of order 3, by its group.
-fn order3(operation: usize, words: &[u64; ROOM]) -> Answer {
-    match operation {
-        VECTOR_ADD..=VECTOR_TRUNCATE_N => vectors::order3(operation, words),
-        ZERO..=FROM_MATRIX3 => builders::order3(operation, words),
-        ROW..=SWAP_ELEMENTS => places::order3(operation, words),
-        ADD..=MUL_VECTOR => arithmetic::order3(operation, words),
-        DETERMINANT | INVERT => inverse::order3(operation, words),
-        FROM_ANGLE..=FROM_AXIS_ANGLE => rotations::order3(operation, words),
-        SIGNED_SUM..=COFACTOR => whole_numbers::order3(operation, words),
-        _ => Answer::unknown(),
-    }
+// An operation that order 2 has for itself. These three, and what they call of the groups, are one for each order: what is done there
+// is in no trait, since no two orders have the same of it, but for the rotations of space, where the reason stands.
+fn own2(operation: Operation, words: Words<'_>) -> Option<Answer> {
+    builders::own2(operation, words)
+        .or(rotations::own2(operation, words))
+        .or(inverse::own2(operation, words))
 }
 
-// An operation of order 4, by its group.
-fn order4(operation: usize, words: &[u64; ROOM]) -> Answer {
-    match operation {
-        VECTOR_ADD..=VECTOR_TRUNCATE_N => vectors::order4(operation, words),
-        ZERO..=FROM_MATRIX3 => builders::order4(operation, words),
-        ROW..=SWAP_ELEMENTS => places::order4(operation, words),
-        ADD..=MUL_VECTOR => arithmetic::order4(operation, words),
-        DETERMINANT | INVERT => inverse::order4(operation, words),
-        FROM_ANGLE..=FROM_AXIS_ANGLE => rotations::order4(operation, words),
-        SIGNED_SUM..=COFACTOR => whole_numbers::order4(operation, words),
-        _ => Answer::unknown(),
-    }
+// An operation that order 3 has for itself.
+fn own3(operation: Operation, words: Words<'_>) -> Option<Answer> {
+    vectors::own3(operation, words)
+        .or(builders::own3(operation, words))
+        .or(rotations::own3(operation, words))
+}
+
+// An operation that order 4 has for itself.
+fn own4(operation: Operation, words: Words<'_>) -> Option<Answer> {
+    vectors::own4(operation, words)
+        .or(builders::own4(operation, words))
+        .or(rotations::own4(operation, words))
 }

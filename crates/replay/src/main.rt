@@ -19,72 +19,32 @@ mod vectors;
 mod whole_numbers;
 mod words;
 
-ghost use Rattle.std.specs.Prelude.{◌≤◌, length, IfOk};
-
+use arrayvec::ArrayVec;
 use line::replayed;
-use list::line_end;
 use std::io;
 use std::io::Read;
 use tally::Tally;
 
-// How many bytes of the list are read at most.
+// How many bytes of the list are read at most; a list of as many is too long.
 const LENGTH: usize = 2097152;
 
 // Reads the list from the standard input, and writes the report.
 fn main(rt: HostRuntime) -> io::Result<()> {
-    let mut text = [0u8; LENGTH];
-    read_array(&rt, &mut text)
-}
-
-// The same, with room for the list.
-fn read_array(rt: &(impl Input + Print), text: &mut [u8; LENGTH]) -> io::Result<()> {
-    read_slice(rt, text)
-}
-
-// The same, with room of any length.
-fn read_slice(rt: &(impl Input + Print), text: &mut [u8]) -> io::Result<()> {
-    let n = read_full(rt, text)?;
-    if n == text.len() {
-        return rt.write_all(b"the list is too long\n");
+    let mut list = ArrayVec::<u8, LENGTH>::new();
+    io::copy(&mut rt.reader().take(LENGTH as u64), &mut list)?;
+    if list.is_full() {
+        return println!(rt; "the list is too long");
     }
-    report::report(rt, &counted(&text[..n]))
+    report::report(&rt, &counted(list.as_slice()))
 }
 
-// Reads until the room is full or the input ends: how many bytes there are.
-fn read_full(rt: &impl Input, text: &mut [u8]) -> io::Result<usize>
-    ensures { IfOk result (λ n. n ≤ length text.new) }
-{
-    let mut input = rt.reader();
-    let mut n = 0;
-    for _ in 0..u64::MAX {
-        let got = input.read(&mut text[n..])?;
-        if got == 0 {
-            return Ok(n);
-        }
-        n += got;
-    }
-    Ok(n)
-}
-
-// What the lines come to.
+// What the lines come to, without those that are empty or a comment.
 fn counted(text: &[u8]) -> Tally {
     let mut tally = Tally::new();
-    let mut at = 0;
-    while at < text.len() {
-        let end = line_end(text, at);
-        tally = with_line(tally, &text[at..end]);
-        at = end + 1;
+    for line in text.split(|b| *b == b'\n') {
+        if !line.is_empty() && !line.starts_with(b"#") {
+            tally.add(replayed(line));
+        }
     }
     tally
-}
-
-// The counts with a line more, unless it is empty or a comment.
-fn with_line(tally: Tally, line: &[u8]) -> Tally {
-    if line.len() == 0 {
-        return tally;
-    }
-    if line[0] == b'#' {
-        return tally;
-    }
-    tally.with(replayed(line))
 }

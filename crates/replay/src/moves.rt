@@ -1,12 +1,9 @@
 // Bulk moves: a line hands over an order and three lengths, then the matrix and the vectors or points.
 // The whole room of the output is compared, so that what a move leaves untouched is compared too.
-ghost use Rattle.std.specs.Prelude.{◌≤◌, length};
-
-use crate::answer::written;
-use crate::list::{Beginning, next_word, sign_at};
-use crate::outcome::Outcome;
-use crate::table::MOVE_VECTORS;
-use bulk::Moved;
+use crate::answer::Written;
+use crate::list::Line;
+use crate::outcome::{Compared, Uncompared};
+use crate::table::{Operation, Order};
 
 // The most numbers of a matrix, an input or an output: 64 vectors of four, and a few more.
 const FLAT: usize = 260;
@@ -14,203 +11,79 @@ const FLAT: usize = 260;
 // What stands in every place of the output before a move.
 const MARK: f64 = 4321.0625;
 
-// What is handed over, whether it could be read, and where the numbers start.
-#[derive(Drop)]
-pub struct Handed {
-    pub read: bool,
-    pub order: usize,
-    pub matrix: usize,
-    pub input: usize,
-    pub output: usize,
-    pub next: usize,
-}
-
-// Whether all numbers were read, and where the next word starts.
-#[derive(Drop)]
-pub struct Filled {
-    pub read: bool,
-    pub next: usize,
-}
-
-// What a bulk line says is answered: a refusal, as the list writes it, or 0; or that it can't be read.
-#[derive(Drop)]
-pub struct Stated {
-    pub read: bool,
-    pub refusal: u64,
-}
-
 // What a bulk line comes to.
-pub(crate) fn replayed(line: &[u8], head: Beginning) -> Outcome
-    requires { head.next ≤ length line.now }
-{
-    let handed = handed_over(line, head.next);
+pub(crate) fn replayed(
+    mut line: Line<'_>,
+    operation: Operation,
+    order: Option<Order>,
+) -> Result<Compared, Uncompared> {
+    let handed = line.whole()?;
+    let lengths = [line.whole()?, line.whole()?, line.whole()?];
     let mut matrix = [0.0; FLAT];
     let mut input = [0.0; FLAT];
     let mut output = [MARK; FLAT];
     let mut expected = [MARK; FLAT];
-    let columns = numbers(line, handed.next, handed.matrix, &mut matrix);
-    let vectors = numbers(line, columns.next, handed.input, &mut input);
-    let stated = stated_output(line, vectors.next, handed.output, &mut expected);
-    if !all(handed.read, columns.read, vectors.read, stated.read) {
-        return Outcome::NotRead;
-    }
-    let refusal = moved(head.operation, handed, &matrix, &input, &mut output);
-    if refusal == stated.refusal {
-        if same(&output, &expected) {
-            return Outcome::Same(head.operation, head.order);
-        }
-    }
-    Outcome::Different(head.operation, head.order)
+    let [m, n, k] = lengths;
+    let matrix = first(&mut matrix, m)?;
+    let input = first(&mut input, n)?;
+    numbers(&mut line, matrix)?;
+    numbers(&mut line, input)?;
+    let theirs = stated(line, first(&mut expected, k)?)?;
+    let ours = moved(operation, handed, matrix, input, first(&mut output, k)?);
+    let same = ours == theirs && same(&output, &expected);
+    Ok(Compared {
+        operation,
+        order,
+        same,
+    })
 }
 
-// Whether all four are true.
-fn all(a: bool, b: bool, c: bool, d: bool) -> bool {
-    if a {
-        if b {
-            if c {
-                return d;
-            }
-        }
-    }
-    false
+// As many of the room's first places, unless it has fewer.
+fn first(room: &mut [f64], count: usize) -> Result<&mut [f64], Uncompared> {
+    room.get_mut(..count).ok_or(Uncompared::NotRead)
 }
 
-// The order and the three lengths, unless there is no room for as much.
-fn handed_over(line: &[u8], from: usize) -> Handed
-    requires { from ≤ length line.now }
-    ensures { (result.matrix ≤ 260) × (result.input ≤ 260) × (result.output ≤ 260) × (result.next ≤ length line.now) }
-{
-    let order = next_word(line, from);
-    let matrix = next_word(line, order.next);
-    let input = next_word(line, matrix.next);
-    let output = next_word(line, input.next);
-    let nothing = Handed {
-        read: false,
-        order: 0,
-        matrix: 0,
-        input: 0,
-        output: 0,
-        next: output.next,
-    };
-    if !all(order.read, matrix.read, input.read, output.read) {
-        return nothing;
+// Fills these places with the numbers of the next words.
+fn numbers(line: &mut Line<'_>, places: &mut [f64]) -> Result<(), Uncompared> {
+    for place in places.iter_mut() {
+        *place = bits::number(line.number()?);
     }
-    if matrix.value > 260 {
-        return nothing;
-    }
-    if input.value > 260 {
-        return nothing;
-    }
-    if output.value > 260 {
-        return nothing;
-    }
-    Handed {
-        read: true,
-        order: order.value as usize,
-        matrix: matrix.value as usize,
-        input: input.value as usize,
-        output: output.value as usize,
-        next: output.next,
-    }
+    Ok(())
 }
 
-// Fills the room's first places with as many numbers, of the words from `from` on.
-fn numbers(line: &[u8], from: usize, count: usize, room: &mut [f64; FLAT]) -> Filled
-    requires { (from ≤ length line.now) × (count ≤ 260) }
-    ensures { result.next ≤ length line.now }
-{
-    let mut next = from;
-    for i in 0..count {
-        let word = next_word(line, next);
-        if !word.read {
-            return Filled { read: false, next };
-        }
-        room[i] = bits::number(word.value);
-        next = word.next;
-    }
-    Filled { read: true, next }
-}
-
-// The move of what is handed over: a refusal as the list writes it, or 0.
+// The move of what is handed over.
 fn moved(
-    operation: usize,
-    handed: Handed,
-    matrix: &[f64; FLAT],
-    input: &[f64; FLAT],
-    output: &mut [f64; FLAT],
-) -> u64
-    requires { (handed.matrix ≤ 260) × (handed.input ≤ 260) × (handed.output ≤ 260) }
-{
-    moved_parts(operation, handed, matrix, input, output)
-}
-
-// The same, with room of any length of which the first places are handed over.
-fn moved_parts(
-    operation: usize,
-    handed: Handed,
+    operation: Operation,
+    order: usize,
     matrix: &[f64],
     input: &[f64],
     output: &mut [f64],
-) -> u64
-    requires { (handed.matrix ≤ length matrix.now) × (handed.input ≤ length input.now) × (handed.output ≤ length output.old) }
-{
-    let m = handed.matrix;
-    let n = handed.input;
-    let k = handed.output;
-    if operation == MOVE_VECTORS {
-        number(bulk::move_vectors(handed.order, &matrix[..m], &input[..n], &mut output[..k]))
-    } else {
-        number(bulk::move_points(handed.order, &matrix[..m], &input[..n], &mut output[..k]))
+) -> Result<(), Written> {
+    match operation {
+        Operation::MoveVectors => bulk::move_vectors(order, matrix, input, output),
+        _ => bulk::move_points(order, matrix, input, output),
     }
+    .map_err(Written::from)
 }
 
-// A refusal as the list writes it, or 0.
-fn number(answer: Moved) -> u64 {
-    match answer {
-        Moved::Done => 0,
-        Moved::Refused(cause) => written(cause),
-    }
-}
-
-// What the line says from `from` on: '=' and the numbers of the output, or '!' and a refusal.
-fn stated_output(line: &[u8], from: usize, count: usize, expected: &mut [f64; FLAT]) -> Stated
-    requires { (from ≤ length line.now) × (count ≤ 260) }
-{
-    let sign = sign_at(line, from);
-    let value = sign.value;
-    match value {
+// What the rest of the line says: '=' and the numbers of the output, or '!' and a refusal, where 0 says that there is none.
+fn stated(mut line: Line<'_>, expected: &mut [f64]) -> Result<Result<(), Written>, Uncompared> {
+    let answer = match line.sign()? {
         b'=' => {
-            let entries = numbers(line, sign.next, count, expected);
-            Stated {
-                read: ends(line, entries.read, entries.next),
-                refusal: 0,
-            }
+            numbers(&mut line, expected)?;
+            Ok(())
         }
-        b'!' => {
-            let refusal = next_word(line, sign.next);
-            Stated {
-                read: ends(line, refusal.read, refusal.next),
-                refusal: refusal.value,
-            }
-        }
-        _ => Stated {
-            read: false,
-            refusal: 0,
+        b'!' => match line.number()? {
+            0 => Ok(()),
+            refusal => Err(Written(refusal)),
         },
-    }
+        _ => return Err(Uncompared::NotRead),
+    };
+    line.end()?;
+    Ok(answer)
 }
 
-// Whether what was read is all, and the line ends there.
-fn ends(line: &[u8], read: bool, next: usize) -> bool {
-    if read { next == line.len() } else { false }
-}
-
-// Whether two outputs are the same, bit for bit.
-fn same(a: &[f64; FLAT], b: &[f64; FLAT]) -> bool {
-    for i in 0..FLAT {
-        if !bits::same(a[i], b[i]) {
-            return false;
-        }
-    }
-    true
+// Whether two outputs of one length are the same, bit for bit, any NaN the same as any NaN: == on f64 takes -0.0 for 0.0, and no NaN for itself.
+fn same(a: &[f64], b: &[f64]) -> bool {
+    a.iter().zip(b).all(|(a, b)| bits::same(*a, *b))
 }

@@ -1,67 +1,26 @@
 // Writes the counts: a line for each operation, then the sums.
-use crate::table::{PLANTED, name};
-use crate::tally::Tally;
+use crate::table::{LISTED, Operation};
+use crate::tally::{Counts, Tally};
 use std::io;
 
 // The whole report.
 pub(crate) fn report(rt: &impl Print, tally: &Tally) -> io::Result<()> {
-    text(
-        rt,
-        b"operation             order 2 order 3 order 4  differ\n",
-    )?;
-    operations(rt, tally)?;
-    text(rt, b"total compared        ")?;
-    sum(rt, tally.compared_in_all())?;
-    text(rt, b"total differ          ")?;
-    sum(rt, tally.different_in_all())?;
-    text(rt, b"planted compared      ")?;
-    sum(rt, tally.compared_of(PLANTED))?;
-    text(rt, b"planted differ        ")?;
-    sum(rt, tally.different_of(PLANTED))?;
-    text(rt, b"lines not read        ")?;
-    sum(rt, tally.not_read)?;
-    text(rt, b"operations not known  ")?;
-    sum(rt, tally.not_known)
-}
-
-// A line for each operation, without the planted.
-fn operations(rt: &impl Print, tally: &Tally) -> io::Result<()> {
-    for operation in 0..PLANTED {
-        row(rt, tally, operation)?;
+    println!(rt; "operation             order 2 order 3 order 4  differ")?;
+    for (operation, name) in &LISTED {
+        row(rt, name, tally.of(*operation))?;
     }
-    Ok(())
+    let planted = tally.of(Operation::Planted);
+    println!(rt; "total compared        {}", tally.compared_in_all())?;
+    println!(rt; "total differ          {}", tally.different_in_all())?;
+    println!(rt; "planted compared      {}", planted.compared_in_all())?;
+    println!(rt; "planted differ        {}", planted.different)?;
+    println!(rt; "lines not read        {}", tally.not_read)?;
+    println!(rt; "operations not known  {}", tally.not_known)
 }
 
-// An operation's name, its compared lines of each order, and its differing lines.
-fn row(rt: &impl Print, tally: &Tally, operation: usize) -> io::Result<()> {
-    text(rt, &name(operation))?;
-    column(rt, tally.compared_at(operation, 2))?;
-    column(rt, tally.compared_at(operation, 3))?;
-    column(rt, tally.compared_at(operation, 4))?;
-    column(rt, tally.different_of(operation))?;
-    text(rt, b"\n")
-}
-
-// A number at the right of eight places.
-fn column(rt: &impl Print, n: u64) -> io::Result<()> {
-    if n < 10 {
-        text(rt, b"       ")?;
-    } else if n < 100 {
-        text(rt, b"      ")?;
-    } else if n < 1000 {
-        text(rt, b"     ")?;
-    } else {
-        text(rt, b"    ")?;
-    }
-    print!(rt; "{n}")
-}
-
-// A number and the end of the line.
-fn sum(rt: &impl Print, n: u64) -> io::Result<()> {
-    println!(rt; "{n}")
-}
-
-// These bytes.
-fn text(rt: &impl Print, bytes: &[u8]) -> io::Result<()> {
-    rt.write_all(bytes)
+// An operation's name, its compared lines of each order, and its differing lines, each of which is written behind four spaces.
+fn row(rt: &impl Print, name: &str, counts: Counts) -> io::Result<()> {
+    let [two, three, four] = counts.compared;
+    let differ = counts.different;
+    println!(rt; "{name:<21}    {two:>4}    {three:>4}    {four:>4}    {differ:>4}")
 }

@@ -1,44 +1,40 @@
-// Rotations, by their numbers: the sine, the cosine, and the axis where there is one.
-use crate::answer::Answer;
-use crate::table::{FROM_ANGLE, FROM_ANGLE_X, FROM_ANGLE_Y, FROM_ANGLE_Z, FROM_AXIS_ANGLE};
-use crate::words::{ROOM, number_at, vector3_at};
+// Rotations: the sine, the cosine, and the axis where there is one.
+use crate::answer::{Answer, given};
+use crate::table::Operation;
+use crate::words::Words;
 use matrix::{Matrix2, Matrix3, Matrix4};
 
 // A rotation of order 2.
-pub(crate) fn order2(operation: usize, words: &[u64; ROOM]) -> Answer {
+pub(crate) fn own2(operation: Operation, mut words: Words<'_>) -> Option<Answer> {
     match operation {
-        FROM_ANGLE => Answer::matrix2(Matrix2::from_angle(
-            number_at(words, 0),
-            number_at(words, 1),
-        )),
-        _ => Answer::unknown(),
+        Operation::FromAngle => given(Matrix2::from_angle(words.read(), words.read())),
+        _ => None,
     }
 }
 
-// A rotation of order 3.
-pub(crate) fn order3(operation: usize, words: &[u64; ROOM]) -> Answer {
-    let s = number_at(words, 0);
-    let c = number_at(words, 1);
+// A rotation of order 3. That of order 4 is its twin: no trait has the four functions, and one for these two orders would name each
+// three times, where the twins name each twice.
+pub(crate) fn own3(operation: Operation, mut words: Words<'_>) -> Option<Answer> {
+    let [s, c]: [f64; 2] = words.read();
     let result = match operation {
-        FROM_ANGLE_X => Matrix3::from_angle_x(s, c),
-        FROM_ANGLE_Y => Matrix3::from_angle_y(s, c),
-        FROM_ANGLE_Z => Matrix3::from_angle_z(s, c),
-        FROM_AXIS_ANGLE => Matrix3::from_axis_angle(vector3_at(words, 2), s, c),
-        _ => return Answer::unknown(),
+        Operation::FromAngleX => Matrix3::from_angle_x(s, c),
+        Operation::FromAngleY => Matrix3::from_angle_y(s, c),
+        Operation::FromAngleZ => Matrix3::from_angle_z(s, c),
+        Operation::FromAxisAngle => Matrix3::from_axis_angle(words.read(), s, c),
+        _ => return None,
     };
-    Answer::matrix3(result)
+    given(result)
 }
 
 // A rotation of order 4.
-pub(crate) fn order4(operation: usize, words: &[u64; ROOM]) -> Answer {
-    let s = number_at(words, 0);
-    let c = number_at(words, 1);
+pub(crate) fn own4(operation: Operation, mut words: Words<'_>) -> Option<Answer> {
+    let [s, c]: [f64; 2] = words.read();
     let result = match operation {
-        FROM_ANGLE_X => Matrix4::from_angle_x(s, c),
-        FROM_ANGLE_Y => Matrix4::from_angle_y(s, c),
-        FROM_ANGLE_Z => Matrix4::from_angle_z(s, c),
-        FROM_AXIS_ANGLE => Matrix4::from_axis_angle(vector3_at(words, 2), s, c),
-        _ => return Answer::unknown(),
+        Operation::FromAngleX => Matrix4::from_angle_x(s, c),
+        Operation::FromAngleY => Matrix4::from_angle_y(s, c),
+        Operation::FromAngleZ => Matrix4::from_angle_z(s, c),
+        Operation::FromAxisAngle => Matrix4::from_axis_angle(words.read(), s, c),
+        _ => return None,
     };
-    Answer::matrix4(result)
+    given(result)
 }

@@ -1,148 +1,89 @@
 // Counts what the lines come to.
-ghost use Rattle.std.specs.Prelude.{◌<◌};
+use crate::outcome::{Compared, Uncompared};
+use crate::table::{COUNT, LISTED, Operation};
 
-use crate::outcome::Outcome;
-use crate::table::{COUNT, PLANTED};
+// What the lines of an operation come to.
+#[derive(Clone, Copy)]
+pub struct Counts {
+    // Lines compared, of each order from 2 on.
+    pub compared: [u64; 3],
+    // Lines whose answers differ.
+    pub different: u64,
+}
 
-// How many counts there are of compared lines: three to an operation, one for each order.
-const COUNTS: usize = 3 * COUNT;
+impl Counts {
+    // No line.
+    const NONE: Counts = Counts {
+        compared: [0; 3],
+        different: 0,
+    };
 
-// The counts.
+    // How many lines were compared.
+    pub(crate) fn compared_in_all(&self) -> u64 {
+        let [two, three, four] = self.compared;
+        two.saturating_add(three).saturating_add(four)
+    }
+}
+
+// The counts, each up to the most there can be.
 #[derive(Drop)]
 pub struct Tally {
-    // Lines compared, at 3 times the operation and the order less 2.
-    pub compared: [u64; COUNTS],
-    // Lines whose answers differ, by operation.
-    pub different: [u64; COUNT],
+    // Those of each operation.
+    counts: [Counts; COUNT],
     // Lines that can't be read.
     pub not_read: u64,
     // Lines whose operation is not known, or not at their order.
     pub not_known: u64,
 }
 
-// One more, up to the most there can be.
-fn more(n: u64) -> u64 {
-    if n < 0xffff_ffff_ffff_ffff { n + 1 } else { n }
-}
-
-// The sum, up to the most there can be.
-fn plus(a: u64, b: u64) -> u64 {
-    if a <= 0xffff_ffff_ffff_ffff - b {
-        a + b
-    } else {
-        0xffff_ffff_ffff_ffff
-    }
-}
-
 impl Tally {
     // Nothing counted.
     pub(crate) fn new() -> Tally {
         Tally {
-            compared: [0; COUNTS],
-            different: [0; COUNT],
+            counts: [Counts::NONE; COUNT],
             not_read: 0,
             not_known: 0,
         }
     }
 
-    // With one line more.
-    pub(crate) fn with(self, outcome: Outcome) -> Tally {
+    // Counts one line more.
+    pub(crate) fn add(&mut self, outcome: Result<Compared, Uncompared>) {
         match outcome {
-            Outcome::Same(operation, order) => self.with_compared(operation, order),
-            Outcome::Different(operation, order) => self
-                .with_compared(operation, order)
-                .with_different(operation),
-            Outcome::NotRead => self.with_not_read(),
-            Outcome::NotKnown => self.with_not_known(),
+            Ok(line) => self.add_compared(line),
+            Err(Uncompared::NotRead) => self.not_read = self.not_read.saturating_add(1),
+            Err(Uncompared::NotKnown) => self.not_known = self.not_known.saturating_add(1),
         }
     }
 
-    // With one compared line more.
-    fn with_compared(mut self, operation: usize, order: usize) -> Tally {
-        if operation >= COUNT {
-            return self;
+    // Counts one compared line more.
+    fn add_compared(&mut self, line: Compared) {
+        let counts = &mut self.counts[line.operation as usize];
+        if let Some(order) = line.order {
+            let place = order as usize;
+            counts.compared[place] = counts.compared[place].saturating_add(1);
         }
-        if order < 2 {
-            return self;
+        if !line.same {
+            counts.different = counts.different.saturating_add(1);
         }
-        if order > 4 {
-            return self;
-        }
-        let place = 3 * operation + order - 2;
-        self.compared[place] = more(self.compared[place]);
-        self
     }
 
-    // With one differing line more.
-    fn with_different(mut self, operation: usize) -> Tally {
-        if operation < COUNT {
-            self.different[operation] = more(self.different[operation]);
-        }
-        self
-    }
-
-    // With one line more that can't be read.
-    fn with_not_read(mut self) -> Tally {
-        self.not_read = more(self.not_read);
-        self
-    }
-
-    // With one line more whose operation is not known.
-    fn with_not_known(mut self) -> Tally {
-        self.not_known = more(self.not_known);
-        self
-    }
-
-    // How many lines of an operation and an order were compared.
-    pub(crate) fn compared_at(&self, operation: usize, order: usize) -> u64 {
-        if operation >= COUNT {
-            return 0;
-        }
-        if order < 2 {
-            return 0;
-        }
-        if order > 4 {
-            return 0;
-        }
-        let place = 3 * operation + order - 2;
-        self.compared[place]
-    }
-
-    // How many lines of an operation were compared.
-    pub(crate) fn compared_of(&self, operation: usize) -> u64 {
-        plus(
-            self.compared_at(operation, 2),
-            plus(
-                self.compared_at(operation, 3),
-                self.compared_at(operation, 4),
-            ),
-        )
-    }
-
-    // How many lines of an operation differ.
-    pub(crate) fn different_of(&self, operation: usize) -> u64 {
-        if operation < COUNT {
-            self.different[operation]
-        } else {
-            0
-        }
+    // The counts of an operation.
+    pub(crate) fn of(&self, operation: Operation) -> Counts {
+        self.counts[operation as usize]
     }
 
     // How many lines were compared, without the planted.
     pub(crate) fn compared_in_all(&self) -> u64 {
-        let mut sum = 0;
-        for operation in 0..PLANTED {
-            sum = plus(sum, self.compared_of(operation));
-        }
-        sum
+        LISTED.iter().fold(0, |sum: u64, row| {
+            sum.saturating_add(self.of(row.0).compared_in_all())
+        })
     }
 
     // How many lines differ, without the planted.
     pub(crate) fn different_in_all(&self) -> u64 {
-        let mut sum = 0;
-        for operation in 0..PLANTED {
-            sum = plus(sum, self.different_of(operation));
-        }
-        sum
+        LISTED.iter().fold(
+            0,
+            |sum: u64, row| sum.saturating_add(self.of(row.0).different),
+        )
     }
 }

@@ -1,56 +1,39 @@
-// The operations of vectors, by their numbers.
-use crate::answer::Answer;
-use crate::table::{
-    VECTOR_ADD, VECTOR_CROSS, VECTOR_DIV_SCALAR, VECTOR_DOT, VECTOR_SCALAR_MUL, VECTOR_SUB,
-    VECTOR_TRUNCATE_N,
-};
-use crate::words::{ROOM, number_at, place_at, vector2_at, vector3_at, vector4_at};
-use vector::{Vector, VectorSpace};
+// The operations of vectors.
+use crate::answer::{Answer, HasEntries, answered, given};
+use crate::table::Operation;
+use crate::words::{Stated, Words};
+use vector::{Vector, Vector3, Vector4, VectorSpace};
 
-// An operation of vectors of two numbers.
-pub(crate) fn order2(operation: usize, words: &[u64; ROOM]) -> Answer {
-    let v = vector2_at(words, 0);
-    let other = vector2_at(words, 2);
-    let scalar = number_at(words, 2);
-    let result = match operation {
-        VECTOR_ADD => v.add(other),
-        VECTOR_SUB => v.sub(other),
-        VECTOR_SCALAR_MUL => v.scalar_mul(scalar),
-        VECTOR_DOT => return Answer::number(v.dot(other)),
-        _ => return Answer::unknown(),
-    };
-    Answer::vector2(result)
+// An operation that vectors of every length have.
+pub(crate) fn done<V: Vector + Stated + HasEntries>(
+    operation: Operation,
+    mut words: Words<'_>,
+) -> Option<Answer> {
+    let v: V = words.read();
+    match operation {
+        Operation::VectorAdd => given(v.add(words.read())),
+        Operation::VectorSub => given(v.sub(words.read())),
+        Operation::VectorScalarMul => given(v.scalar_mul(words.read())),
+        Operation::VectorDot => given(v.dot(words.read())),
+        _ => None,
+    }
 }
 
-// An operation of vectors of three numbers.
-pub(crate) fn order3(operation: usize, words: &[u64; ROOM]) -> Answer {
-    let v = vector3_at(words, 0);
-    let other = vector3_at(words, 3);
-    let scalar = number_at(words, 3);
-    let result = match operation {
-        VECTOR_ADD => v.add(other),
-        VECTOR_SUB => v.sub(other),
-        VECTOR_SCALAR_MUL => v.scalar_mul(scalar),
-        VECTOR_DIV_SCALAR => v.div_scalar(scalar),
-        VECTOR_CROSS => v.cross(other),
-        VECTOR_DOT => return Answer::number(v.dot(other)),
-        _ => return Answer::unknown(),
-    };
-    Answer::vector3(result)
+// An operation that vectors of three numbers have for themselves. In the list these alone are divided by a scalar.
+pub(crate) fn own3(operation: Operation, mut words: Words<'_>) -> Option<Answer> {
+    let v: Vector3 = words.read();
+    match operation {
+        Operation::VectorDivScalar => given(v.div_scalar(words.read())),
+        Operation::VectorCross => given(v.cross(words.read())),
+        _ => None,
+    }
 }
 
-// An operation of vectors of four numbers.
-pub(crate) fn order4(operation: usize, words: &[u64; ROOM]) -> Answer {
-    let v = vector4_at(words, 0);
-    let other = vector4_at(words, 4);
-    let scalar = number_at(words, 4);
-    let result = match operation {
-        VECTOR_ADD => v.add(other),
-        VECTOR_SUB => v.sub(other),
-        VECTOR_SCALAR_MUL => v.scalar_mul(scalar),
-        VECTOR_DOT => return Answer::number(v.dot(other)),
-        VECTOR_TRUNCATE_N => return Answer::of_vector3(v.truncate_n(place_at(words, 4))),
-        _ => return Answer::unknown(),
-    };
-    Answer::vector4(result)
+// An operation that vectors of four numbers have for themselves.
+pub(crate) fn own4(operation: Operation, mut words: Words<'_>) -> Option<Answer> {
+    let v: Vector4 = words.read();
+    match operation {
+        Operation::VectorTruncateN => answered(v.truncate_n(words.read())),
+        _ => None,
+    }
 }

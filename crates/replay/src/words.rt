@@ -1,109 +1,103 @@
-// Words of a line as bit patterns, and bit patterns as numbers, vectors and matrices.
-ghost use Rattle.std.specs.Prelude.{◌+◌, ◌≤◌};
-
+// The words that an operation reads, and the numbers, vectors and matrices that are made of them.
 use matrix::{Column, Matrix2, Matrix3, Matrix4, Row};
+use std::array;
 use vector::{Vector2, Vector3, Vector4};
 
-// The most words that an operation reads.
-pub const ROOM: usize = 36;
+// The bit patterns that are still to be read.
+#[derive(Clone, Copy)]
+pub struct Words<'a>(pub &'a [u64]);
 
-// The pattern that stands for every NaN.
-const NAN: u64 = 0x7ff8_0000_0000_0000;
-
-// Whether the pattern is a NaN's.
-fn is_nan(bits: u64) -> bool {
-    bits % 0x8000_0000_0000_0000 > 0x7ff0_0000_0000_0000
+// What the next words state.
+pub trait Stated {
+    // It, and they are read.
+    fn stated(words: &mut Words<'_>) -> Self;
 }
 
-// The pattern itself, or for each NaN's the same one.
-pub(crate) fn canonical(bits: u64) -> u64 {
-    if is_nan(bits) { NAN } else { bits }
+impl Words<'_> {
+    // The next word; 0 behind the last.
+    fn word(&mut self) -> u64 {
+        let Some((word, rest)) = self.0.split_first() else {
+            return 0;
+        };
+        self.0 = rest;
+        *word
+    }
+
+    // What the next words state.
+    pub(crate) fn read<T: Stated>(&mut self) -> T {
+        T::stated(self)
+    }
 }
 
-// The number at a place of the words.
-pub(crate) fn number_at(words: &[u64; ROOM], at: usize) -> f64
-    requires { at + 1 ≤ 36 }
-{
-    bits::number(words[at])
+impl Stated for f64 {
+    fn stated(words: &mut Words<'_>) -> f64 {
+        bits::number(words.word())
+    }
 }
 
-// The place that a word states.
-pub(crate) fn place_at(words: &[u64; ROOM], at: usize) -> usize
-    requires { at + 1 ≤ 36 }
-{
-    words[at] as usize
+impl Stated for usize {
+    fn stated(words: &mut Words<'_>) -> usize {
+        words.word() as usize
+    }
 }
 
-// The row's number that a word states.
-pub(crate) fn row_at(words: &[u64; ROOM], at: usize) -> Row
-    requires { at + 1 ≤ 36 }
-{
-    Row(place_at(words, at))
+impl Stated for Row {
+    fn stated(words: &mut Words<'_>) -> Row {
+        Row(words.read())
+    }
 }
 
-// The column's number that a word states.
-pub(crate) fn column_at(words: &[u64; ROOM], at: usize) -> Column
-    requires { at + 1 ≤ 36 }
-{
-    Column(place_at(words, at))
+impl Stated for Column {
+    fn stated(words: &mut Words<'_>) -> Column {
+        Column(words.read())
+    }
 }
 
-// The vector from a place of the words on.
-pub(crate) fn vector2_at(words: &[u64; ROOM], at: usize) -> Vector2
-    requires { at + 2 ≤ 36 }
-{
-    Vector2::new(bits::number(words[at]), bits::number(words[at + 1]))
+impl<T: Stated, const N: usize> Stated for [T; N] {
+    fn stated(words: &mut Words<'_>) -> [T; N] {
+        array::from_fn(|_| words.read())
+    }
 }
 
-// The vector from a place of the words on.
-pub(crate) fn vector3_at(words: &[u64; ROOM], at: usize) -> Vector3
-    requires { at + 3 ≤ 36 }
-{
-    Vector3::new(
-        bits::number(words[at]),
-        bits::number(words[at + 1]),
-        bits::number(words[at + 2]),
-    )
+// An impl for each record: `new` and `from_cols` take an argument for each entry or column, so no two are alike.
+impl Stated for Vector2 {
+    fn stated(words: &mut Words<'_>) -> Vector2 {
+        let [x, y]: [f64; 2] = words.read();
+        Vector2::new(x, y)
+    }
 }
 
-// The vector from a place of the words on.
-pub(crate) fn vector4_at(words: &[u64; ROOM], at: usize) -> Vector4
-    requires { at + 4 ≤ 36 }
-{
-    Vector4::new(
-        bits::number(words[at]),
-        bits::number(words[at + 1]),
-        bits::number(words[at + 2]),
-        bits::number(words[at + 3]),
-    )
+impl Stated for Vector3 {
+    fn stated(words: &mut Words<'_>) -> Vector3 {
+        let [x, y, z]: [f64; 3] = words.read();
+        Vector3::new(x, y, z)
+    }
 }
 
-// The matrix from a place of the words on, column by column.
-pub(crate) fn matrix2_at(words: &[u64; ROOM], at: usize) -> Matrix2
-    requires { at + 4 ≤ 36 }
-{
-    Matrix2::from_cols(vector2_at(words, at), vector2_at(words, at + 2))
+impl Stated for Vector4 {
+    fn stated(words: &mut Words<'_>) -> Vector4 {
+        let [x, y, z, w]: [f64; 4] = words.read();
+        Vector4::new(x, y, z, w)
+    }
 }
 
-// The matrix from a place of the words on, column by column.
-pub(crate) fn matrix3_at(words: &[u64; ROOM], at: usize) -> Matrix3
-    requires { at + 9 ≤ 36 }
-{
-    Matrix3::from_cols(
-        vector3_at(words, at),
-        vector3_at(words, at + 3),
-        vector3_at(words, at + 6),
-    )
+impl Stated for Matrix2 {
+    fn stated(words: &mut Words<'_>) -> Matrix2 {
+        let [x, y]: [Vector2; 2] = words.read();
+        Matrix2::from_cols(x, y)
+    }
 }
 
-// The matrix from a place of the words on, column by column.
-pub(crate) fn matrix4_at(words: &[u64; ROOM], at: usize) -> Matrix4
-    requires { at + 16 ≤ 36 }
-{
-    Matrix4::from_cols(
-        vector4_at(words, at),
-        vector4_at(words, at + 4),
-        vector4_at(words, at + 8),
-        vector4_at(words, at + 12),
-    )
+impl Stated for Matrix3 {
+    fn stated(words: &mut Words<'_>) -> Matrix3 {
+        let [x, y, z]: [Vector3; 3] = words.read();
+        Matrix3::from_cols(x, y, z)
+    }
+}
+
+impl Stated for Matrix4 {
+    fn stated(words: &mut Words<'_>) -> Matrix4 {
+        let [x, y, z, w]: [Vector4; 4] = words.read();
+        Matrix4::from_cols(x, y, z, w)
+    }
 }
