@@ -3,7 +3,7 @@
 -- The range tests and the swaps are said once, whatever the order. A comment holds for the orders below it. Assumes nothing.
 use Rattle.std.specs.Prelude.{ℕ, List, [], map, get_or, set, Float}
 use Rattle.std.specs.Float.{nan}
-use Rattle.vector.specs.Refusals.{Outcome, given, refused_for, after, below_limit}
+use Rattle.vector.specs.Refusals.{Outcome, given, after, below_limit}
 use Rattle.vector.specs.declared.refusal.Place.{Place}
 use Rattle.vector.specs.declared.refusal.Place.TheVariants.{First, Second}
 use Rattle.vector.specs.declared.refusal.Refusal.TheVariants as cause

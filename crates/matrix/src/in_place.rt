@@ -32,7 +32,13 @@ impl Matrix4 {
     }
 
     // The entry in column ac, row ar and the one in column bc, row br exchanged.
-    pub fn swap_elements_mut(&mut self, ac: Column, ar: Row, bc: Column, br: Row) -> Result<(), Refusal>
+    pub fn swap_elements_mut(
+        &mut self,
+        ac: Column,
+        ar: Row,
+        bc: Column,
+        br: Row,
+    ) -> Result<(), Refusal>
         ensures { (outcome result ≡ done (swap_elements4 self.old ac ar bc br)) × (self.new ≡ leaves self.old (swap_elements4 self.old ac ar bc br)) }
     {
         self.store(self.swap_elements(ac, ar, bc, br))

@@ -64,7 +64,13 @@ pub(crate) fn check_columns(order: usize, a: Column, b: Column) -> Result<(), Re
 
 // Whether the four numbers are below the order: the first column, the first row, the second column, the second row, in this order.
 #[tactic(auto, unfolding(crate::specs::Places::elements_below))]
-pub(crate) fn check_elements(order: usize, ac: Column, ar: Row, bc: Column, br: Row) -> Result<(), Refusal>
+pub(crate) fn check_elements(
+    order: usize,
+    ac: Column,
+    ar: Row,
+    bc: Column,
+    br: Row,
+) -> Result<(), Refusal>
     ensures { outcome result ≡ elements_below order ac ar bc br }
 {
     check_column(order, Place::First, ac)?;
@@ -106,7 +112,13 @@ fn rows_swapped<const N: usize>(m: [[f64; N]; N], a: usize, b: usize) -> [[f64; 
 }
 
 // The array with m[ac][ar] and m[bc][br] exchanged.
-fn elements_swapped<const N: usize>(m: [[f64; N]; N], ac: usize, ar: usize, bc: usize, br: usize) -> [[f64; N]; N]
+fn elements_swapped<const N: usize>(
+    m: [[f64; N]; N],
+    ac: usize,
+    ar: usize,
+    bc: usize,
+    br: usize,
+) -> [[f64; N]; N]
     requires { (ac < N) × (ar < N) × (bc < N) × (br < N) }
     ensures { result ≡ swap_elements m.entry ac ar bc br }
 {

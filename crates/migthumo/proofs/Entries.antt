@@ -1,8 +1,8 @@
 -- The one law of an entry, whatever its order and its width: what the arm of its order answers and leaves is the entry's outcome,
 -- and an order that has no arm is refused. Assumes nothing.
-use mathlib.Core.Path.{◌≡◌, refl, sym, ap, ◌∙◌}
+use mathlib.Core.Path.{◌≡◌, refl, ap, ◌∙◌}
 use mathlib.Core.List.{List, [], ◌∷◌}
-use Prim.Native.Nat.{ℕ, zero, suc, ◌*◌, ◌^◌, ◌<◌, ◌≤◌}
+use Prim.Native.Nat.{ℕ, zero, suc, ◌*◌, ◌^◌, ◌≤◌}
 use native.Mathlib.Omega.{arith}
 use lib.Ieee.{Float}
 use mathlib.Core.Bool.{cond}
@@ -11,13 +11,13 @@ use lib.ListN.{length}
 use Rattle.std.specs.Prelude.{Result, Err}
 use Rattle.vector.specs.declared.refusal.Refusal.{Refusal}
 use Rattle.vector.specs.declared.refusal.Refusal.TheVariants.{InputLength, OutputLength, Order}
-use Rattle.vector.specs.Refusals.{Outcome, given, refused, refused_for, outcome, after, done, leaves}
+use Rattle.vector.specs.Refusals.{Outcome, given, refused, refused_for, outcome, after, done}
 use Rattle.matrix.specs.declared.records.Matrix2.{Matrix2}
 use Rattle.matrix.specs.declared.records.Matrix3.{Matrix3}
 use Rattle.matrix.specs.declared.records.Matrix4.{Matrix4}
 use Rattle.bulk.specs.Moves.{flat2, flat3, flat4}
 use Rattle.bulk.specs.Refusals.{order_from, number_is}
-use Rattle.bulk.proofs.Checks.{order_taken, order_low, order_high}
+use Rattle.bulk.proofs.Checks.{order_taken, order_high}
 use Rattle.migthumo.specs.Made.{Left}
 use Rattle.migthumo.specs.Entries.{code, Answers, entry_fits, by_order}
 use Rattle.migthumo.specs.Flat.{numbers3, numbers4}

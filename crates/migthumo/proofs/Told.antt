@@ -1,7 +1,7 @@
 -- What an answer tells of its cause: the number, the place, and so the cause itself. Assumes nothing.
 use mathlib.Core.Path.{◌≡◌, refl}
 use mathlib.Core.Bool.{cond}
-use Prim.Native.Nat.{ℕ, ◌+◌, ◌/◌, ◌%◌, ◌<◌}
+use Prim.Native.Nat.{ℕ, ◌/◌, ◌%◌, ◌<◌}
 use lib.Dec.{eqb, lit<}
 use Rattle.vector.specs.declared.refusal.Place.TheVariants.{First, Second}
 use Rattle.vector.specs.declared.refusal.Refusal.{Refusal}

@@ -1,11 +1,11 @@
 -- A component in its two outputs: the lengths tested first, then what the record gives or refuses.
 -- Assumes nothing.
-use mathlib.Core.Path.{◌≡◌, refl, sym, ap, ◌∙◌}
+use mathlib.Core.Path.{◌≡◌, refl}
 use mathlib.Core.List.{List}
 use Prim.Native.Nat.{ℕ}
 use lib.Ieee.{Float}
 use Rattle.std.specs.Prelude.{Result, Ok, Err}
-use Rattle.vector.specs.Refusals.{means, number_of, over}
+use Rattle.vector.specs.Refusals.{means, number_of}
 use Rattle.vector.specs.declared.refusal.Refusal.TheVariants.{OutputLength}
 use Rattle.bulk.proofs.Checks.{length_right, length_wrong}
 use Rattle.component.specs.declared.Component.{Component}

@@ -28,7 +28,11 @@ pub extern "C" fn migthumo_read_component(
     match component::read(bytes, at) {
         Err(fault) => code::of_fault(fault),
         Ok(found) => {
-            head.copy_from_slice(&[usize::from(found.flags), usize::from(found.index), found.after]);
+            head.copy_from_slice(&[
+                usize::from(found.flags),
+                usize::from(found.index),
+                found.after,
+            ]);
             found.matrix.put(m);
             0
         }

@@ -11,7 +11,10 @@ use crate::store::Store;
 use vector::Refusal;
 
 // What is made of nothing that is handed in, into an output of as many numbers.
-pub(crate) fn of_none<T, R: Store<T>, F: FnOnce() -> Result<R, Refusal>>(out: &mut [T], make: F) -> Result<(), Refusal>
+pub(crate) fn of_none<T, R: Store<T>, F: FnOnce() -> Result<R, Refusal>>(
+    out: &mut [T],
+    make: F,
+) -> Result<(), Refusal>
     requires { F.IsAlwaysCallable make }
     ensures { (g : Outcome R) → Made (F.post make) g → Left result out.old out.new (after (number_is OutputLength (length out.old) R.COUNT) (over R.numbers g)) }
 {

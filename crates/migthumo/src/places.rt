@@ -101,9 +101,21 @@ pub extern "C" fn migthumo_swap_elements(
     ensures { Answers result out.old out.new (swap_elements order (column_at ac) (row_at ar) (column_at bc) (row_at br) m.now (length out.old)) }
 {
     code::answered(match order {
-        2 => entry::of_one(m, out, |m: Matrix2| m.swap_elements(Column(ac), Row(ar), Column(bc), Row(br))),
-        3 => entry::of_one(m, out, |m: Matrix3| m.swap_elements(Column(ac), Row(ar), Column(bc), Row(br))),
-        4 => entry::of_one(m, out, |m: Matrix4| m.swap_elements(Column(ac), Row(ar), Column(bc), Row(br))),
+        2 => entry::of_one(
+            m,
+            out,
+            |m: Matrix2| m.swap_elements(Column(ac), Row(ar), Column(bc), Row(br)),
+        ),
+        3 => entry::of_one(
+            m,
+            out,
+            |m: Matrix3| m.swap_elements(Column(ac), Row(ar), Column(bc), Row(br)),
+        ),
+        4 => entry::of_one(
+            m,
+            out,
+            |m: Matrix4| m.swap_elements(Column(ac), Row(ar), Column(bc), Row(br)),
+        ),
         _ => Err(Refusal::Order),
     })
 }

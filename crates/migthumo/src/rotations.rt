@@ -66,8 +66,14 @@ pub extern "C" fn migthumo_from_axis_angle(
     ensures { Answers result out.old out.new (from_axis_angle order (vector3 x y z) s c (length out.old)) }
 {
     code::answered(match order {
-        3 => entry::of_none(out, || Ok(Matrix3::from_axis_angle(Vector3::new(x, y, z), s, c))),
-        4 => entry::of_none(out, || Ok(Matrix4::from_axis_angle(Vector3::new(x, y, z), s, c))),
+        3 => entry::of_none(
+            out,
+            || Ok(Matrix3::from_axis_angle(Vector3::new(x, y, z), s, c)),
+        ),
+        4 => entry::of_none(
+            out,
+            || Ok(Matrix4::from_axis_angle(Vector3::new(x, y, z), s, c)),
+        ),
         _ => Err(Refusal::Order),
     })
 }

@@ -9,8 +9,9 @@ use Rattle.migthumo.proofs.arithmetic.migthumo_subtract.Goals.{in-2, in-3, in-4,
 pub returns : goal.returns
 returns c =
     let is = c.answered.ensures in
-    elim c.match-order.branch
-    [ in-2 w ↦ two2 is w.answered-is w.out-is _ _ _ _ _ _ w.in-2.is (w.of_two.ensures (λ x y. given (sub2 x y)) (λ x y r p. search rules))
-    | in-3 w ↦ two3 is w.answered-is w.out-is _ _ _ _ _ _ w.in-3.is (w.of_two-in-3.ensures (λ x y. given (sub3 x y)) (λ x y r p. search rules))
-    | in-4 w ↦ two4 is w.answered-is w.out-is _ _ _ _ _ _ w.in-4.is (w.of_two-in-4.ensures (λ x y. given (sub4 x y)) (λ x y r p. search rules))
-    | in_default w ↦ none2 is w.answered-is w.out-is _ _ _ _ _ _ (λ e. omega arith) (λ e. omega arith) (λ e. omega arith) ]
+    elim c.match-order.branch [
+      | in-2 w ↦ two2 is w.answered-is w.out-is _ _ _ _ _ _ w.in-2.is (w.of_two.ensures (λ x y. given (sub2 x y)) (λ x y r p. search rules))
+      | in-3 w ↦ two3 is w.answered-is w.out-is _ _ _ _ _ _ w.in-3.is (w.of_two-in-3.ensures (λ x y. given (sub3 x y)) (λ x y r p. search rules))
+      | in-4 w ↦ two4 is w.answered-is w.out-is _ _ _ _ _ _ w.in-4.is (w.of_two-in-4.ensures (λ x y. given (sub4 x y)) (λ x y r p. search rules))
+      | in_default w ↦ none2 is w.answered-is w.out-is _ _ _ _ _ _ (λ e. omega arith) (λ e. omega arith) (λ e. omega arith)
+    ]

@@ -9,8 +9,9 @@ use Rattle.migthumo.proofs.inverse.migthumo_determinant.Goals.{in-2, in-3, in-4,
 pub returns : goal.returns
 returns c =
     let is = c.answered.ensures in
-    elim c.match-order.branch
-    [ in-2 w ↦ one2 is w.answered-is w.out-is _ _ _ _ _ w.in-2.is (w.of_one.ensures (λ x. given (det2 x)) (λ x r p. search rules))
-    | in-3 w ↦ one3 is w.answered-is w.out-is _ _ _ _ _ w.in-3.is (w.of_one-in-3.ensures (λ x. given (det3 x)) (λ x r p. search rules))
-    | in-4 w ↦ one4 is w.answered-is w.out-is _ _ _ _ _ w.in-4.is (w.of_one-in-4.ensures (λ x. given (det4 x)) (λ x r p. search rules))
-    | in_default w ↦ none1 is w.answered-is w.out-is _ _ _ _ _ (λ e. omega arith) (λ e. omega arith) (λ e. omega arith) ]
+    elim c.match-order.branch [
+      | in-2 w ↦ one2 is w.answered-is w.out-is _ _ _ _ _ w.in-2.is (w.of_one.ensures (λ x. given (det2 x)) (λ x r p. search rules))
+      | in-3 w ↦ one3 is w.answered-is w.out-is _ _ _ _ _ w.in-3.is (w.of_one-in-3.ensures (λ x. given (det3 x)) (λ x r p. search rules))
+      | in-4 w ↦ one4 is w.answered-is w.out-is _ _ _ _ _ w.in-4.is (w.of_one-in-4.ensures (λ x. given (det4 x)) (λ x r p. search rules))
+      | in_default w ↦ none1 is w.answered-is w.out-is _ _ _ _ _ (λ e. omega arith) (λ e. omega arith) (λ e. omega arith)
+    ]

@@ -9,7 +9,8 @@ use Rattle.migthumo.proofs.rotations.migthumo_from_angle_x.Goals.{in-3, in-4, in
 pub returns : goal.returns
 returns c =
     let is = c.answered.ensures in
-    elim c.match-order.branch
-    [ in-3 w ↦ rotation3 is w.answered-is w.out-is _ _ w.in-3.is (w.of_none.ensures (given (from_angle_x3 c.args.s c.args.c)) (λ r p. search rules))
-    | in-4 w ↦ rotation4 is w.answered-is w.out-is _ _ w.in-4.is (w.of_none-in-4.ensures (given (from_angle_x4 c.args.s c.args.c)) (λ r p. search rules))
-    | in_default w ↦ no_rotation is w.answered-is w.out-is _ _ (λ e. omega arith) (λ e. omega arith) ]
+    elim c.match-order.branch [
+      | in-3 w ↦ rotation3 is w.answered-is w.out-is _ _ w.in-3.is (w.of_none.ensures (given (from_angle_x3 c.args.s c.args.c)) (λ r p. search rules))
+      | in-4 w ↦ rotation4 is w.answered-is w.out-is _ _ w.in-4.is (w.of_none-in-4.ensures (given (from_angle_x4 c.args.s c.args.c)) (λ r p. search rules))
+      | in_default w ↦ no_rotation is w.answered-is w.out-is _ _ (λ e. omega arith) (λ e. omega arith)
+    ]
