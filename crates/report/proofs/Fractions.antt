@@ -1,6 +1,6 @@
 -- The loop that finds the greatest common divisor, and the text of a fraction.
 -- Assumes nothing.
-use Rattle.std.proofs.Common.{◌≡◌, ℕ, zero, suc, ◌/◌, ◌%◌, ◌^◌, ◌<◌, ◌≤◌, cond, [], ◌++◌, ℤ, pos, ◌*ℤ◌, nat_abs, sym, refl, ◌∙◌, append-nil, mod-lt, arith, eq-eqb, ne_eqb}
+use Rattle.std.proofs.Common.{◌≡◌, ℕ, zero, suc, ◌/◌, ◌%◌, ◌^◌, ◌<◌, ◌≤◌, cond, [], ◌++◌, ℤ, pos, ◌*ℤ◌, nat_abs, sym, ◌∙◌, append-nil, mod-lt, arith, eq-eqb, ne_eqb}
 use native.Mathlib.Nat.{zero-div}
 use lib.Signed.{mag, lt_z}
 use Rattle.engine.proofs.Signed.{back}
@@ -17,9 +17,6 @@ pub record Steps (a b x y : ℕ) : Type 0 where
   pub left : ℕ
   pub enough : y ≤ left
   pub same : euclid left x y ≡ gcd a b
-
-pub steps_start : (a b : ℕ) → Steps a b a b
-steps_start a b = record { left = b; enough = omega arith; same = refl }
 
 pub steps_turn : {a b x y : ℕ} → (y ≡ 0 → ⊥) → Steps a b x y → Steps a b y (x % y)
 unfolding euclid
