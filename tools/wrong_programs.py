@@ -69,7 +69,7 @@ WRONG = {
         "in_place.rt Matrix{4}::swap_rows_mut": [("answers done and leaves the matrix", "self.store(self.swap_rows(a, b))", "let _given = self.swap_rows(a, b)?;\n        Ok(())"), ("the first number twice", "(a, b)", "(a, a)")],
         "in_place.rt Matrix{4}::swap_columns_mut": [("answers done and leaves the matrix", "self.store(self.swap_columns(a, b))", "let _given = self.swap_columns(a, b)?;\n        Ok(())"), ("the first number twice", "(a, b)", "(a, a)")],
         "in_place.rt Matrix{4}::swap_elements_mut": [("answers done and leaves the matrix", "self.store(self.swap_elements(ac, ar, bc, br))", "let _given = self.swap_elements(ac, ar, bc, br)?;\n        Ok(())"), ("the first place twice", "(ac, ar, bc, br)", "(ac, ar, ac, ar)")],
-        "arithmetic.rt VectorSpace@Matrix{234}::map": [("a column for its neighbour", "self.x.map(f)", "self.y.map(f)"), ("one column left as it is", "self.y.map(f)", "self.y")],
+        "arithmetic.rt VectorSpace@Matrix{234}::map": [("a column for its neighbour", "self.x.map(f)", "self.y.map(f)"), ("the first column twice", "self.y.map(f)", "self.x.map(f)")],
         "arithmetic.rt VectorSpace@Matrix{234}::zip": [("a column of the other for its neighbour", "self.x.zip(other.x, f)", "self.x.zip(other.y, f)"), ("one column the other way round", "self.y.zip(other.y, f)", "other.y.zip(self.y, f)")],
         "square.rt SquareMatrix::from_value": [("1 for the value", "from_value(value)", "from_value(1.0)"), ("twice the value", "from_value(value)", "from_value(value + value)")],
         "square.rt SquareMatrix@Matrix{234}::mul_vector": [("one row for another", "rows.x.dot", "rows.y.dot"), ("a row twice", "rows.y.dot", "rows.x.dot")],
