@@ -9,7 +9,7 @@ use crate::load;
 use matrix::{Matrix3, Matrix4, SquareMatrix};
 use vector::{Vector2, Vector3, Vector4};
 
-// A point of order 3: extended by 1, multiplied, the last coordinate of the answer dropped.
+// A point of order 3 (one function for each order: they name the records' fields): extended by 1, multiplied, the last coordinate of the answer dropped.
 pub(crate) fn move_point3(m: Matrix3, p: Vector2) -> Vector2
     ensures { result ≡ move_point3 m p }
 {

@@ -15,7 +15,7 @@ pub enum Fault {
 }
 
 impl Fault {
-    // The number of this cause.
+    // The number of this cause, as `Refusal::number` is that of a refusal.
     pub fn number(self) -> u32
         ensures { result ≡ number_of (means self) }
     {

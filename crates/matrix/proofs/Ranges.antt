@@ -4,21 +4,16 @@ use mathlib.Core.Path.{◌≡◌, refl, sym}
 use Prim.Native.Nat.{ℕ, ◌*◌, ◌<◌, ◌≤◌}
 use native.Mathlib.Nat.{mul-le-mul}
 use native.Mathlib.Omega.{arith}
-use Rattle.vector.specs.declared.refusal.Place.{Place}
 use Rattle.vector.specs.Refusals.{Outcome, given, refused, after}
 use Rattle.vector.proofs.Checks.{passes}
 use Rattle.matrix.specs.declared.places.Column.{Column}
 use Rattle.matrix.specs.declared.places.Row.{Row}
-use Rattle.matrix.specs.Places.{row_below, rows_below, columns_below, elements_below}
+use Rattle.matrix.specs.Places.{rows_below, columns_below, elements_below}
 
 -- two checks, one after the other, pass where both do
 pub both : (first second : Outcome Unit) → given tt ≡ after first second → (first ≡ given tt) × (second ≡ given tt)
 both (given u) second e = (refl, sym e)
 both (refused why) second e = let none : ◌≡◌ {A = ℕ} 0 1 = cc in absurd (omega arith)
-
--- the row is below the order
-pub row_within : (n : ℕ) (place : Place) (r : Row) → given tt ≡ row_below n place r → r.0 < n
-row_within n place r e = passes _ n _ (sym e)
 
 -- both rows are below the order
 pub rows_within : (n : ℕ) (a b : Row) → given tt ≡ rows_below n a b → (a.0 < n) × (b.0 < n)

@@ -19,6 +19,8 @@ use Rattle.matrix.proofs.inverse.Matrix4Invert
 use Rattle.matrix.proofs.records.Matrix3FromMatrix2
 use Rattle.matrix.proofs.records.Matrix4FromMatrix2
 use Rattle.matrix.proofs.records.Matrix4FromMatrix3
+use Rattle.matrix.proofs.rotations.Matrix3Rotation
+use Rattle.matrix.proofs.rotations.Matrix4Rotation
 use Rattle.matrix.proofs.records.Matrix2
 use Rattle.matrix.proofs.records.Matrix3
 use Rattle.matrix.proofs.records.Matrix4
@@ -338,26 +340,32 @@ matrix4_invert = meaning outcome_one
 pub matrix2_from_angle : Decided Matrix2.from_angle.Reads.Learnt
 matrix2_from_angle = value
 
-pub matrix3_from_angle_x : Decided Matrix3.from_angle_x.Reads.Learnt
+pub matrix3_from_angle_x : Decided Matrix3Rotation.from_angle_x.Reads.Learnt
 matrix3_from_angle_x = value
 
-pub matrix3_from_angle_y : Decided Matrix3.from_angle_y.Reads.Learnt
+pub matrix3_from_angle_y : Decided Matrix3Rotation.from_angle_y.Reads.Learnt
 matrix3_from_angle_y = value
 
-pub matrix3_from_angle_z : Decided Matrix3.from_angle_z.Reads.Learnt
+pub matrix3_from_angle_z : Decided Matrix3Rotation.from_angle_z.Reads.Learnt
 matrix3_from_angle_z = value
 
-pub matrix3_from_axis_angle : Decided Matrix3.from_axis_angle.Reads.Learnt
+pub matrix3_from_axis_angle : Decided Matrix3Rotation.from_axis_angle.Reads.Learnt
 matrix3_from_axis_angle = value
 
-pub matrix4_from_angle_x : Decided Matrix4.from_angle_x.Reads.Learnt
+pub matrix4_from_angle_x : Decided Matrix4Rotation.from_angle_x.Reads.Learnt
 matrix4_from_angle_x = value
 
-pub matrix4_from_angle_y : Decided Matrix4.from_angle_y.Reads.Learnt
+pub matrix4_from_angle_y : Decided Matrix4Rotation.from_angle_y.Reads.Learnt
 matrix4_from_angle_y = value
 
-pub matrix4_from_angle_z : Decided Matrix4.from_angle_z.Reads.Learnt
+pub matrix4_from_angle_z : Decided Matrix4Rotation.from_angle_z.Reads.Learnt
 matrix4_from_angle_z = value
 
-pub matrix4_from_axis_angle : Decided Matrix4.from_axis_angle.Reads.Learnt
+pub matrix4_from_axis_angle : Decided Matrix4Rotation.from_axis_angle.Reads.Learnt
 matrix4_from_axis_angle = value
+
+pub matrix3_of : Decided Matrix3Rotation.of.Reads.Learnt
+matrix3_of = value
+
+pub matrix4_of : Decided Matrix4Rotation.of.Reads.Learnt
+matrix4_of = value

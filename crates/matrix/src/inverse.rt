@@ -11,7 +11,7 @@ use crate::places::Matrix;
 use crate::records::{Matrix2, Matrix3, Matrix4};
 use vector::{Refusal, Vector, Vector3, Vector4, VectorSpace};
 
-// Determinant and inverse, after the Rust's SquareMatrix: what is refused is said once for every order.
+// Determinant and inverse, after the Rust's SquareMatrix: what is refused is said once for every order. The formulas are other ones at each.
 pub trait Invert: Copy {
     ghost determinant: { Self → Float };
 

@@ -13,4 +13,5 @@ pub mod square;
 pub use inverse::Invert;
 pub use places::{Column, Matrix, Row};
 pub use records::{Matrix2, Matrix3, Matrix4};
+pub use rotations::Rotation;
 pub use square::SquareMatrix;

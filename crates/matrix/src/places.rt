@@ -129,6 +129,8 @@ fn elements_swapped<const N: usize>(
 }
 
 // Rows, columns and entries by their numbers, after the Rust's Matrix: what the numbers decide is said once for every order.
+// Arrays both ways are methods here and no `From`: a bound of that name brings a relation, and the swaps want the equations. What names a
+// record's fields stands once for each record.
 pub trait Matrix<const N: usize>: SquareMatrix {
     ghost row: { Self → Row → Outcome Self.Column };
 

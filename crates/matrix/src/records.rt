@@ -1,4 +1,6 @@
 // The matrix records, their constants, arrays, builders and embeddings: document 01, 'Modules, leaves first', 2.
+// What takes one argument for each entry or column, or means another thing at each order, stands once for each record: document 01,
+// 'Which language form to use', wants the three records and names these constructors.
 ghost use Rattle.std.specs.Prelude.{◌≡◌};
 ghost use Rattle.matrix.specs.Records.{new2, new3, new4, matrix2, matrix3, matrix4};
 ghost use Rattle.matrix.specs.Records.{from_value2, from_value3, from_value4};

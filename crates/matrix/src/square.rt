@@ -1,4 +1,5 @@
-// What the square matrices share, after the Rust's SquareMatrix: said once for every order.
+// What the square matrices share, after the Rust's SquareMatrix: said once for every order. What names a record's fields stands once for each
+// record, and the product of order 4 sums in another order than the others' (document 01, 'Rules of the arithmetic').
 ghost use Rattle.std.specs.Prelude.{◌≡◌, ℕ, ◌≤◌, List, replicate, Float, refl};
 ghost use Rattle.std.proofs.Common.{arith};
 ghost use Rattle.matrix.specs.Records.{order2, order3, order4};

@@ -5,7 +5,7 @@ ghost use Rattle.migthumo.specs.Entries.{Answers};
 ghost use Rattle.migthumo.specs.Boundary.{from_angle, from_angle_x, from_angle_y, from_angle_z, from_axis_angle};
 
 use crate::{code, entry};
-use matrix::{Matrix2, Matrix3, Matrix4};
+use matrix::{Matrix2, Matrix3, Matrix4, Rotation};
 use vector::{Refusal, Vector3};
 
 // A rotation of the plane: order 2.

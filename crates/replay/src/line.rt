@@ -69,7 +69,7 @@ where
 }
 
 // An operation that order 2 has for itself. These three, and what they call of the groups, are one for each order: what is done there
-// is in no trait, since no two orders have the same of it, but for the rotations of space, where the reason stands.
+// is in no trait, since no two orders have the same of it.
 fn own2(operation: Operation, words: Words<'_>) -> Option<Answer> {
     builders::own2(operation, words)
         .or(rotations::own2(operation, words))
@@ -80,12 +80,12 @@ fn own2(operation: Operation, words: Words<'_>) -> Option<Answer> {
 fn own3(operation: Operation, words: Words<'_>) -> Option<Answer> {
     vectors::own3(operation, words)
         .or(builders::own3(operation, words))
-        .or(rotations::own3(operation, words))
+        .or(rotations::done::<Matrix3>(operation, words))
 }
 
 // An operation that order 4 has for itself.
 fn own4(operation: Operation, words: Words<'_>) -> Option<Answer> {
     vectors::own4(operation, words)
         .or(builders::own4(operation, words))
-        .or(rotations::own4(operation, words))
+        .or(rotations::done::<Matrix4>(operation, words))
 }

@@ -1,15 +1,6 @@
 -- Any two outcomes that a promise allows are equal: said once, of any promise, with the proof for each form that promises have here.
 -- A promise speaks of the lifetimes κ, the arguments a, the answer x and the parameters at exit s: a function's `Reads.Learnt` does. Assumes nothing.
 use mathlib.Core.Path.{◌≡◌, sym, ◌∙◌}
-use seplogic.Ra.Ura.{Ura}
-use base.Logic.{SProp}
-use prog.Memory.{Memory}
-use prog.Routine.{Routine}
-use types.Logic.{Logic}
-use contract.Lifetimes.{Lfts}
-use contract.Monad.{Fun, fact}
-use denote.Triple.Entry.{Args, Res}
-use denote.Triple.Clauses.{Ended, AtExit, Clauses}
 
 -- the promise decides the answer
 pub record Decided {K : Type 0} {A R S : K → Type 0} (promise : (κ : K) → A κ → R κ → S κ → Type 0) : Type 0 where
@@ -22,19 +13,6 @@ pub record DecidedLent {K : Type 0} {A R S L : K → Type 0} (promise : (κ : K)
 -- the promise decides the answer, where the arguments are as said: a closure computes a function
 pub record DecidedWhere {K : Type 0} {A R S : K → Type 0} (known : (κ : K) → A κ → Type 0) (promise : (κ : K) → A κ → R κ → S κ → Type 0) : Type 0 where
   pub decided : (κ : K) (a : A κ) (x y : R κ) (s t : S κ) → known κ a → promise κ a x s → promise κ a y t → x ≡ y
-
--- ---- a function proved by hand has no `Reads`: the same of its clauses
-
--- the clauses of a function with this signature, in each model of the logic
-abbrev pub Contract : Ended → Type 2
-Contract T = (M : Type 1) (𝓤 : Ura M) (𝓛 : Logic 𝓤) → (Memory → SProp 𝓤) → (Routine → Fun 𝓤) → Clauses 𝓤 T
-
--- what its `ensures` says is a plain promise, the same in each model, and that promise decides the answer and what is lent
-pub record DecidedClauses (T : Ended) (contract : Contract T) {L : Lfts T.signature.lifetimes → Type 0} (lent : (κ : Lfts T.signature.lifetimes) → AtExit T κ → L κ) : Type 2 where
-  pub promise : (κ : Lfts T.signature.lifetimes) → Args T.signature κ → Res T.signature κ → AtExit T κ → Type 0
-  pub says : (M : Type 1) (𝓤 : Ura M) (𝓛 : Logic 𝓤) (mem : Memory → SProp 𝓤) (run : Routine → Fun 𝓤) (κ : Lfts T.signature.lifetimes) (a : Args T.signature κ)
-      (ghost : (contract M 𝓤 𝓛 mem run κ a).ghost) (x : Res T.signature κ) (s : AtExit T κ) → (contract M 𝓤 𝓛 mem run κ a).ensures ghost x s ≡ fact 𝓤 (promise κ a x s)
-  pub decides : DecidedLent promise lent
 
 -- ---- the forms of a promise
 

@@ -29,7 +29,7 @@ pub enum Refusal {
 }
 
 impl Refusal {
-    // The number of this cause.
+    // The number of this cause; not a `From`, since the place is lost in it.
     pub fn number(self) -> u32
         ensures { result ≡ number_of (means self) }
     {
