@@ -52,14 +52,12 @@ import sys
 import tempfile
 import time
 
+from wrong_programs import name_of
+
 CRATES = ["bits", "vector", "bulk", "engine", "matrix", "migthumo", "report"]
 KINDS = ["operand", "sign", "times", "column", "less", "equal", "constant", "statement", "arms"]
-# survivors that are equal programs, by the start of their names, each with the reason
-EQUAL = {
-    "matrix/inverse.rt kept operand 4:": "what stands in the arm of the refusal, which does not come: `kept` requires n < 4, and truncate_n gives there",
-    "engine/cofactors.rt without_place constant 6:": "the fourth column takes the room that is left and is not read: `signed_sum` is called with n - 1, at most 3",
-    "engine/cofactors.rt without_row constant 6:": "the fourth element takes the room that is left and is not read, as in without_place",
-}
+# survivors that are equal programs, by the start of their names, each with the reason: none in today's sources so far
+EQUAL = {}
 # what the prover says where a proof's form, and no fact, is at fault: a need or a hypothesis of that name is not there, or a
 # rewriting finds nothing to rewrite
 SHAPE = [
@@ -75,7 +73,7 @@ FIELDS = "xyzw"
 EXCHANGES = {"+": "-", "-": "+", "*": "/", "/": "*", "<": "<=", "<=": "<", ">": ">=", ">=": ">", "==": "!=", "!=": "==", "+=": "-=", "-=": "+=", "*=": "/=", "/=": "*="}
 KIND_OF = {"+": "sign", "-": "sign", "+=": "sign", "-=": "sign", "*": "times", "/": "times", "*=": "times", "/=": "times", "<": "less", "<=": "less", ">": "less", ">=": "less", "==": "equal", "!=": "equal"}
 POWER = {"*": 7, "/": 7, "%": 7, "+": 6, "-": 6, "<<": 5, ">>": 5, "&": 5, "^": 5, "|": 5, "<": 4, "<=": 4, ">": 4, ">=": 4, "==": 4, "!=": 4, "&&": 3, "||": 2, "=": 1, "+=": 1, "-=": 1, "*=": 1, "/=": 1}
-TOKEN = re.compile(r"(?P<skip>\s+|//[^\n]*)|b?\"(?:[^\"\\]|\\.)*\"|b'(?:[^'\\]|\\.)'|0x[0-9a-f_]+|\d[\d_]*\.\d+(?:e-?\d+)?|\d[\d_]*|\w+|::|->|=>|==|!=|<=|>=|<<|>>|&&|\|\||[-+*/]=|\.\.=?|.", re.S)
+TOKEN = re.compile(r"(?P<skip>\s+|//[^\n]*)|b?\"(?:[^\"\\]|\\.)*\"|b'(?:[^'\\]|\\.)'|0x[0-9a-f_]+|\d[\d_]*\.\d+(?:e-?\d+)?|\d[\d_]*(?:[iu](?:8|16|32|64|size))?|\w+|::|->|=>|==|!=|<=|>=|<<|>>|&&|\|\||[-+*/]=|\.\.=?|.", re.S)
 
 Node = collections.namedtuple("Node", "kind start end kids text")
 Place = collections.namedtuple("Place", "crate file function start stop")
@@ -123,9 +121,29 @@ class Parser:
                 self.expression()
             return self.take("]")
         self.take()
-        while self.peek() == "::":
-            self.take()
-            self.take()
+        self.rest_of_path()
+
+    def rest_of_path(self):
+        """Passes over the other names of a path, and over types in angles."""
+        while self.peek() in ("::", "<") and (self.peek() == "::" or self.peek(1)[:1].isupper()):
+            if self.take() == "::" and self.peek() != "<":
+                self.take()
+                continue
+            if self.peek() == "<":
+                self.take()
+            while self.peek() != ">":
+                self.skip_type()
+                if self.peek() == ",":
+                    self.take()
+            self.take(">")
+
+    def skip_braces(self):
+        """Passes over braces and what stands between them."""
+        depth = 0
+        while True:
+            depth += {"{": 1, "}": -1}.get(self.take(), 0)
+            if not depth:
+                return
 
     def block(self):
         """Statements in braces; each statement that ends by ; or is no tail has the kind `statement`."""
@@ -145,9 +163,12 @@ class Parser:
             if self.take() == ":":
                 self.skip_type()
                 self.take("=")
-            value = self.expression()
+            kids = [self.expression()]
+            if self.peek() == "else":
+                self.take()
+                kids.append(self.block())
             self.take(";")
-            return self.node("let", start, [value])
+            return self.node("let", start, kids)
         value = self.expression()
         if self.peek() == ";":
             self.take()
@@ -161,7 +182,7 @@ class Parser:
         start = self.here()
         left = self.prefix(braces)
         while POWER.get(self.peek(), 0) >= least:
-            if left.kind in ("if", "match", "while", "block") and self.text[left.start - 1 : left.start].isspace() and self.peek() in "*-&":
+            if left.kind in ("if", "match", "while", "for", "block") and self.text[left.start - 1 : left.start].isspace() and self.peek() in "*-&":
                 break
             op_at, op = self.here(), self.take()
             right = self.expression(POWER[op] + (POWER[op] > 1), braces)
@@ -197,6 +218,9 @@ class Parser:
                 self.take()
                 self.skip_type()
                 value = self.node("cast", start, [value])
+            elif token == "?":
+                self.take()
+                value = self.node("try", start, [value])
             else:
                 return value
 
@@ -226,11 +250,21 @@ class Parser:
         if token == "while":
             self.take()
             return self.node("while", start, [self.expression(braces=False), self.block()])
+        if token == "for":
+            while self.take() != "in":
+                pass
+            kids = [self.expression(braces=False)]
+            if self.peek() == "..":
+                self.take()
+                kids.append(self.expression(braces=False))
+            return self.node("for", start, kids + [self.block()])
+        if token in ("|", "||"):
+            return self.closure()
         if token == "match":
             return self.match()
         if token == "return":
             self.take()
-            kids = [] if self.peek() == ";" else [self.expression()]
+            kids = [] if self.peek() in ";,}" else [self.expression()]
             return self.node("return", start, kids)
         self.take()
         if token[0].isdigit():
@@ -240,8 +274,7 @@ class Parser:
         if not re.match(r"\w", token):
             raise ValueError(f"unexpected {token} at {self.text.count(chr(10), 0, start) + 1}")
         while self.peek() == "::":
-            self.take()
-            self.take()
+            self.rest_of_path()
         path = self.node("path", start, [])
         if braces and self.peek() == "{" and re.search(r"(^|::)[A-Z]\w*[a-z]\w*$", self.text[path.start : path.end]):
             return self.record(start)
@@ -263,10 +296,28 @@ class Parser:
         self.take("}")
         return self.node("record", start, kids)
 
+    def closure(self):
+        """A closure: its parameters and its contract are passed over."""
+        start = self.here()
+        if self.take() == "|":
+            while self.take() != "|":
+                pass
+        if self.peek() == "->":
+            self.take()
+            self.skip_type()
+        while self.peek() in ("requires", "ensures"):
+            while self.peek() != "{":
+                self.take()
+            self.skip_braces()
+        return self.node("closure", start, [self.expression()])
+
     def branch(self):
-        """An if, with its else."""
+        """An if, with its else; what an `if let` binds is passed over."""
         start = self.here()
         self.take("if")
+        if self.peek() == "let":
+            while self.take() != "=":
+                pass
         kids = [self.expression(braces=False), self.block()]
         if self.peek() == "else":
             self.take()
@@ -294,18 +345,39 @@ class Parser:
 
 
 def places(crate, file, text):
-    """The body of each function, and the value of each constant, of a file."""
-    for m in re.finditer(r"^( *)(?:pub(?:\(crate\))? )?(?:extern \"C\" )?fn (\w+)\(", text, re.M):
-        start = text.index(f"\n{m.group(1)}{{\n", m.end()) + 1
-        stop = text.index(f"\n{m.group(1)}}}\n", start) + 2 + len(m.group(1))
-        yield Place(crate, file, owner(text, m) + m.group(2), start, stop)
-    for m in re.finditer(r"^( *)(?:pub(?:\(crate\))? )?const (\w+): [^=]*= ", text, re.M):
+    """The body of each function that has one, and the value of each constant, of a file."""
+    for m in re.finditer(r"^( *)(?:pub(?:\(crate\))? )?(?:extern \"C\" )?fn (\w+)[<(]", text, re.M):
+        start = body_at(text, m.end() - 1)
+        if start is not None:
+            stop = text.index(f"\n{m.group(1)}}}\n", start) + 2 + len(m.group(1))
+            yield Place(crate, file, owner(text, m) + m.group(2), start, stop)
+    for m in re.finditer(r"^( *)(?:pub(?:\(crate\))? )?const (\w+): [^=\n]*= ", text, re.M):
         yield Place(crate, file, owner(text, m) + m.group(2), m.end(), text.index(";\n", m.end()))
 
 
+def body_at(text, at):
+    """Where the body of a function starts whose parameters start there, past its contract; None where it has none."""
+    depth = 0
+    while True:
+        char = text[at]
+        if not depth and char == ";":
+            return None
+        if not depth and char == "{" and not re.search(r"\b(?:requires|ensures)(?:\s+\w+)?\s*$", text[:at]):
+            return at
+        depth += {"(": 1, "[": 1, "{": 1, ")": -1, "]": -1, "}": -1}.get(char, 0)
+        at += 1
+
+
 def owner(text, m):
-    """The record whose impl an item stands in, with ::, or nothing."""
-    return re.findall(r"^impl (\w+) \{", text[: m.start()], re.M)[-1] + "::" if m.group(1) else ""
+    """The impl or the trait that an item stands in, by the name that the check has for it, with ::, or nothing."""
+    if not m.group(1):
+        return ""
+    head = re.findall(r"^(?:pub(?:\(crate\))? )?(?:impl|trait)\b.*\{$", text[: m.start()], re.M)[-1]
+    head = re.sub(r"<'\w+>", "", head)
+    if "trait" in head:
+        return re.search(r"trait (\w+)", head).group(1) + "::"
+    trait, _, record = head.removeprefix("impl ").removesuffix(" {").rpartition(" for ")
+    return name_of(f"{trait}@{record}" if trait else record) + "::"
 
 
 def walk(node):
@@ -331,9 +403,10 @@ def moved(number):
     if "." in number:
         value = float(number)
         return [f"{value + 1:.1f}"] + ([f"{value - 1:.1f}"] if value >= 1 else [])
-    value = int(number.replace("_", ""), 0)
+    whole, suffix = re.fullmatch(r"(0x[0-9a-f_]+|[\d_]+)(\w*)", number).groups()
+    value = int(whole.replace("_", ""), 0)
     form = hex if number.startswith("0x") else str
-    return [form(value + 1)] + ([form(value - 1)] if value > 0 else [])
+    return [form(value + 1) + suffix] + ([form(value - 1) + suffix] if value > 0 else [])
 
 
 def changes(text, tree):
