@@ -92,7 +92,7 @@ def bodies(crate):
             imports[module].update((of, name) for name in re.findall(r"\w+", listed))
         owner, lines, at = "", text.split("\n"), None
         for line in lines:
-            if head := re.match(r"(?:impl(?:<[^>]*>)?|(?:pub )?trait) (?:[\w:<>]+ for )?\[?(\w+)|\}", line):
+            if head := re.match(r"(?:impl(?:<[^>]*>)?|(?:pub(?:\([^)]*\))? )?trait) (?:[\w:<>]+ for )?\[?(\w+)|\}", line):
                 owner = head.group(1) or ""
             if head := re.match(r"\s*(?:pub(?:\([^)]*\))? )?(?:extern \"C\" |extern  )?fn (\w+)", line):
                 at = (module, owner, head.group(1))

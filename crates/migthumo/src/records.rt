@@ -7,6 +7,9 @@ use crate::{code, entry};
 use matrix::{Matrix2, Matrix3, Matrix4};
 use vector::Refusal;
 
+// The largest order.
+const LARGEST: usize = 4;
+
 // The matrix in the corner of the identity of the order `to`; refusal 5 unless the orders are 2 in 3, 2 in 4 or 3 in 4.
 #[unsafe(no_mangle)]
 pub extern "C" fn migthumo_embed(order: usize, to: usize, m: &[f64], out: &mut [f64]) -> u32
@@ -14,8 +17,8 @@ pub extern "C" fn migthumo_embed(order: usize, to: usize, m: &[f64], out: &mut [
 {
     code::answered(match (order, to) {
         (2, 3) => entry::of_one(m, out, |m: Matrix2| Ok(Matrix3::from(m))),
-        (2, 4) => entry::of_one(m, out, |m: Matrix2| Ok(Matrix4::from(m))),
-        (3, 4) => entry::of_one(m, out, |m: Matrix3| Ok(Matrix4::from(m))),
+        (2, to) if to == LARGEST => entry::of_one(m, out, |m: Matrix2| Ok(Matrix4::from(m))),
+        (3, to) if to == LARGEST => entry::of_one(m, out, |m: Matrix3| Ok(Matrix4::from(m))),
         _ => Err(Refusal::Order),
     })
 }
