@@ -1,4 +1,4 @@
-// Vectors as they stand in a flat slice of numbers.
+// Vectors as they stand in a flat slice of numbers. One impl for each record: they name its fields.
 ghost use Rattle.std.specs.Prelude.{◌≡◌, ◌+◌, ◌≤◌, length};
 ghost use Rattle.std.proofs.lemmas.List.Edits.{sets};
 ghost use Rattle.bulk.specs.Groups.{part};

@@ -30,7 +30,8 @@ fn left_over(input: usize, size: usize) -> usize
     }
 }
 
-// Refusals 5, 3 and 4, the first that applies; vectors are as long as the order, points one number shorter.
+// Refusals 5, 3 and 4, the first that applies; vectors are as long as the order, points one number shorter. `short` is a number, since it is
+// taken from the order.
 #[tactic(auto, unfolding(crate::specs::Refusals::move_fits, crate::specs::Refusals::order_from, crate::specs::Refusals::number_is))]
 fn check(
     short: usize,

@@ -25,7 +25,7 @@ pub(crate) fn move_point4(m: Matrix4, p: Vector3) -> Vector3
     Vector3::new(moved.x, moved.y, moved.z)
 }
 
-// Points of an order whose lengths fit.
+// Points of an order whose lengths fit, by arms as in vectors.rt. That the lengths fit is asked here and there alone.
 pub(crate) fn move_each(order: usize, matrix: &[f64], points: &[f64], output: &mut [f64])
     requires { Fits 1 order (lengths_of matrix.now points.now output.old) }
     ensures { output.new ≡ each (order - 1) (move_point order matrix.now) points.now }

@@ -8,7 +8,7 @@ use crate::each::make_over;
 use crate::load;
 use matrix::SquareMatrix;
 
-// Vectors of an order whose lengths fit.
+// Vectors of an order whose lengths fit. The arms differ in the record alone: the order is a number, and a closure takes one type.
 pub(crate) fn move_each(order: usize, matrix: &[f64], vectors: &[f64], output: &mut [f64])
     requires { Fits 0 order (lengths_of matrix.now vectors.now output.old) }
     ensures { output.new ≡ each order (move_vector order matrix.now) vectors.now }

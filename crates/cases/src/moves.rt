@@ -26,7 +26,8 @@ impl fmt::Display for Move {
     }
 }
 
-// A case: the move, the order, how many numbers the matrix, the vectors or points and the output have, and the number of the refusal.
+// A case: the move, the order, how many numbers the matrix, the vectors or points and the output have, and the number of the refusal,
+// as document 01 and the stored output have it.
 #[derive(Clone, Copy)]
 struct Row(Move, u8, u8, u8, u8, Option<u32>);
 

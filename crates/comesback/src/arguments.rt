@@ -9,6 +9,7 @@ use std::rt::Env;
 // How many words the command has, the program's name among them.
 pub(crate) fn count(rt: &impl Env) -> usize {
     let mut nothing = [0u8; 0];
+    // A count that is never reached, since every loop has to end.
     for i in 0..usize::MAX {
         if let Err(FillError::NotPresent) = rt.arg(i, &mut nothing) {
             return i;

@@ -1,7 +1,8 @@
 // The line that is being read.
 ghost use Rattle.std.specs.Prelude.{◌≡◌, ◌+◌, ◌<◌, ◌≤◌, ◌==◌, ◌++◌, [], ◌∷◌, true, false, take, MatchOption};
 
-// Its bytes so far, as far as there is room for them, how many they are, and whether there were more.
+// Its bytes so far, as far as there is room for them, how many they are, and whether there were more. The room is an array, without a heap,
+// and a line that just fills it is a line still: so that there were more has to be kept beside it, whatever holds the bytes.
 #[derive(Drop)]
 pub(crate) struct Line {
     bytes: [u8; 4096],

@@ -68,6 +68,7 @@ pub(crate) fn answer(rt: &(impl Input + Print)) -> io::Result<()> {
     let mut chunk = [0u8; 65536];
     let mut line = Line::new();
     let mut totals = Totals::none();
+    // A count that is never reached, since every loop has to end.
     for _ in 0..u64::MAX {
         let n = input.read(&mut chunk)?;
         if n == 0 {

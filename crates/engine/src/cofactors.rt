@@ -55,7 +55,7 @@ impl Whole {
     }
 }
 
-// The list without element n; the last stands again in the room that is left.
+// The list without element n; the last stands again in the room that is left. Three calls, as in `minor`.
 fn without<T: Copy>(list: [T; 4], n: usize) -> [T; 4]
     ensures { (past : T) → result ≡ without past n list }
 {

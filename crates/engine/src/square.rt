@@ -1,4 +1,4 @@
-// The matrices that the engine takes, of orders 2, 3 and 4.
+// The matrices that the engine takes, of orders 2, 3 and 4; each goes into the corner its own way.
 // A matrix of order 2 or 3 stands in the top left corner of the identity of order 4, whose other entries are whole.
 ghost use Rattle.std.specs.Prelude.{◌≡◌};
 ghost use Rattle.matrix.specs.Places.{at};

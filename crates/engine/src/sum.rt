@@ -37,6 +37,7 @@ impl Whole {
         ensures { result ≡ down_rows (wholes self.now.numbers) (take self.now.order columns) }
     {
         let mut product = 1;
+        // r numbers the row of the matrix and the place in the order.
         for r in 0..self.order {
             product *= self.numbers[columns[r]][r];
         }

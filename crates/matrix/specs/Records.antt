@@ -146,7 +146,7 @@ from_nonuniform_scale3 a b = from_diagonal3 (vector3 a b float1)
 abbrev pub from_nonuniform_scale4 : Float → Float → Float → Matrix4
 from_nonuniform_scale4 a b c = from_diagonal4 (vector4 a b c float1)
 
--- ---- embeddings, from_matrix2 and from_matrix3: the entries in the corner of the identity
+-- ---- embeddings: the entries in the corner of the identity
 
 abbrev pub embed23 : Matrix2 → Matrix3
 embed23 m =

@@ -1,4 +1,5 @@
 // Sums, scalar forms and products: document 01, 'Modules, leaves first', 4.
+// What needs no field of a record is in VectorSpace; `map` and `zip` name the columns, and so stand once for each record.
 ghost use Rattle.std.specs.Prelude.{◌≡◌};
 ghost use Rattle.matrix.specs.Arithmetic.{map2, map3, map4, zip2, zip3, zip4};
 ghost use Rattle.matrix.specs.Arithmetic.{combine4};

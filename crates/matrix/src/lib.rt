@@ -1,5 +1,5 @@
 // Matrices of order 2, 3 and 4 over f64, column by column: document 01, 'Modules, leaves first', 2 to 6.
-// Each answer equals its definition in specs/; no public function relies on its caller.
+// Each answer equals its definition in specs/; no public function relies on its caller, but that `map` and `zip` ask that their closure may be called.
 #![tactic(auto)]
 
 pub mod arithmetic;

@@ -1,6 +1,6 @@
 // Row, diagonal, transpose and the swaps by value: document 01, 'Modules, leaves first', 3; what their range tests name: document 02, No. 1, 'Say column or row'.
 ghost use Rattle.std.specs.Prelude.{◌≡◌, ◌<◌, List, refl};
-ghost use Rattle.vector.specs.Refusals.{Outcome, outcome, given, after};
+ghost use Rattle.vector.specs.Refusals.{Outcome, outcome, given, after, below_limit};
 ghost use Rattle.matrix.specs.declared.places.Row.{Row};
 ghost use Rattle.matrix.specs.Records.{of_array2, of_array3, of_array4};
 ghost use Rattle.matrix.specs.Places.{row_below, column_below, rows_below, columns_below, elements_below};
@@ -20,33 +20,32 @@ pub struct Column(pub usize);
 #[derive(Clone, Copy, Debug, PartialEq, Eq)]
 pub struct Row(pub usize);
 
-// Whether the row number, the first or the second, is below the order: refusal 12.
+// Whether the number is below the order: else refused for the cause.
 #[tactic(auto, using(vector::proofs::Checks::within, vector::proofs::Checks::outside))]
-pub(crate) fn check_row(order: usize, place: Place, r: Row) -> Result<(), Refusal>
+fn below(order: usize, n: usize, cause: Refusal) -> Result<(), Refusal>
+    ensures { outcome result ≡ below_limit cause order n }
+{
+    if n < order { Ok(()) } else { Err(cause) }
+}
+
+// Whether the row number, the first or the second, is below the order: refusal 12. Rows and columns stay types of their own here and
+// in the two that take both numbers: document 01 keeps them apart.
+fn check_row(order: usize, place: Place, r: Row) -> Result<(), Refusal>
     ensures { outcome result ≡ row_below order place r }
 {
-    if r.0 < order {
-        Ok(())
-    } else {
-        Err(Refusal::Row(place))
-    }
+    below(order, r.0, Refusal::Row(place))
 }
 
 // Whether the column number, the first or the second, is below the order: refusal 11.
-#[tactic(auto, using(vector::proofs::Checks::within, vector::proofs::Checks::outside))]
-pub(crate) fn check_column(order: usize, place: Place, c: Column) -> Result<(), Refusal>
+fn check_column(order: usize, place: Place, c: Column) -> Result<(), Refusal>
     ensures { outcome result ≡ column_below order place c }
 {
-    if c.0 < order {
-        Ok(())
-    } else {
-        Err(Refusal::Column(place))
-    }
+    below(order, c.0, Refusal::Column(place))
 }
 
 // Whether both row numbers are below the order, the first tested first.
 #[tactic(auto, unfolding(crate::specs::Places::rows_below))]
-pub(crate) fn check_rows(order: usize, a: Row, b: Row) -> Result<(), Refusal>
+fn check_rows(order: usize, a: Row, b: Row) -> Result<(), Refusal>
     ensures { outcome result ≡ rows_below order a b }
 {
     check_row(order, Place::First, a)?;
@@ -55,7 +54,7 @@ pub(crate) fn check_rows(order: usize, a: Row, b: Row) -> Result<(), Refusal>
 
 // Whether both column numbers are below the order, the first tested first.
 #[tactic(auto, unfolding(crate::specs::Places::columns_below))]
-pub(crate) fn check_columns(order: usize, a: Column, b: Column) -> Result<(), Refusal>
+fn check_columns(order: usize, a: Column, b: Column) -> Result<(), Refusal>
     ensures { outcome result ≡ columns_below order a b }
 {
     check_column(order, Place::First, a)?;
@@ -64,13 +63,7 @@ pub(crate) fn check_columns(order: usize, a: Column, b: Column) -> Result<(), Re
 
 // Whether the four numbers are below the order: the first column, the first row, the second column, the second row, in this order.
 #[tactic(auto, unfolding(crate::specs::Places::elements_below))]
-pub(crate) fn check_elements(
-    order: usize,
-    ac: Column,
-    ar: Row,
-    bc: Column,
-    br: Row,
-) -> Result<(), Refusal>
+fn check_elements(order: usize, ac: Column, ar: Row, bc: Column, br: Row) -> Result<(), Refusal>
     ensures { outcome result ≡ elements_below order ac ar bc br }
 {
     check_column(order, Place::First, ac)?;

@@ -1,5 +1,5 @@
 // What every entry does, whatever its order: it loads what is handed in (refusal 3), asks for room (refusal 4), makes its answer and stores it.
-// A refusal writes nothing. The order is the entry's own match: its refusal 5 comes before these.
+// That a closure may be called is asked of each: the language has no other way to take one. A refusal writes nothing. The order is the entry's own match: its refusal 5 comes before these.
 // The arms of that match differ in the record alone: C hands the order over as a number, and a closure takes one type.
 ghost use Rattle.std.specs.Prelude.{◌≡◌, length};
 ghost use Rattle.vector.specs.Refusals.{Outcome, after, over};

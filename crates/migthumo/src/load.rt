@@ -1,4 +1,5 @@
 // The matrix of a flat slice of its columns, one after the other.
+// One impl for each record: they name its places.
 // Read as `bulk` reads it for itself; a reader of that crate's for all would ask its callers for the length, which no public function may.
 ghost use Rattle.std.specs.Prelude.{◌≡◌, ℕ, List, Float, length};
 ghost use Rattle.vector.specs.Refusals.{outcome, given, after};

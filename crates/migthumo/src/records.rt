@@ -7,7 +7,9 @@ use crate::{code, entry};
 use matrix::{Matrix2, Matrix3, Matrix4};
 use vector::Refusal;
 
-// The largest order.
+// What takes a matrix of order 3: an order from the first of these to the second.
+const ABOVE_3: usize = 4;
+
 const LARGEST: usize = 4;
 
 // The matrix in the corner of the identity of the order `to`; refusal 5 unless the orders are 2 in 3, 2 in 4 or 3 in 4.
@@ -17,8 +19,12 @@ pub extern "C" fn migthumo_embed(order: usize, to: usize, m: &[f64], out: &mut [
 {
     code::answered(match (order, to) {
         (2, 3) => entry::of_one(m, out, |m: Matrix2| Ok(Matrix3::from(m))),
-        (2, to) if to == LARGEST => entry::of_one(m, out, |m: Matrix2| Ok(Matrix4::from(m))),
-        (3, to) if to == LARGEST => entry::of_one(m, out, |m: Matrix3| Ok(Matrix4::from(m))),
+        (2, 4) => entry::of_one(m, out, |m: Matrix2| Ok(Matrix4::from(m))),
+        (3, to) if ABOVE_3 <= to && to <= LARGEST => entry::of_one(
+            m,
+            out,
+            |m: Matrix3| Ok(Matrix4::from(m)),
+        ),
         _ => Err(Refusal::Order),
     })
 }

@@ -1,4 +1,5 @@
 // What was made, stored in an output of as many numbers.
+// One impl for each record: they name its fields.
 // At order 2 the first number is written last: ends that differ keep the compiler from storing the orders by one slow tail.
 ghost use Rattle.std.specs.Prelude.{◌≡◌, ℕ, List, length};
 ghost use Rattle.vector.specs.Vectors.{entries2, entries3, entries4};

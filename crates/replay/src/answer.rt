@@ -4,7 +4,7 @@ use bits::pattern;
 use matrix::{Matrix, Matrix2, Matrix3, Matrix4};
 use vector::{Place, Refusal, Vector2, Vector3, Vector4};
 
-// A refusal as the list writes it: the number of its cause, and 256 more where the second place is at fault.
+// A refusal as the list writes it, which is worked out here and not taken from the boundary: the number of its cause, and 256 more where the second place is at fault.
 #[derive(Clone, Copy, PartialEq, Eq)]
 pub struct Written(pub u64);
 
@@ -66,6 +66,7 @@ impl HasEntries for bool {
     }
 }
 
+// An impl for each vector: they name its fields.
 impl HasEntries for Vector2 {
     fn entries(self) -> Entries {
         patterns(&[self.x, self.y])

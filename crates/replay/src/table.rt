@@ -158,7 +158,7 @@ pub const LISTED: [(Operation, &str); 47] = [
     (Operation::MovePoints, "move_points"),
 ];
 
-// The order of the vectors and matrices that an operation is of.
+// The order of the vectors and matrices that an operation is of. The report has orders of its own, which the programs do not see.
 #[derive(Clone, Copy)]
 pub enum Order {
     Two,

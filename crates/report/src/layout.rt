@@ -63,7 +63,7 @@ fn exactness(page: &mut Page, exact: bool)
     }
 }
 
-// Whether what a matrix of the order moves comes back.
+// Whether what a matrix of the order moves comes back: `exact` is what is told.
 fn comes_back(page: &mut Page, order: Order, exact: bool)
     ensures { Adds page.old (comes_back (size order) exact) page.new }
 {

@@ -1,5 +1,5 @@
 // Vectors of two, three and four f64: document 01, 'Modules, leaves first', 1.
-// Each answer equals its definition in specs/; no function relies on its caller.
+// Each answer equals its definition in specs/; no function relies on its caller, but that `map` and `zip` ask that their closure may be called.
 // A body that names a record's fields stands once for each record: document 01 wants records of floats. What needs no field is in space.rt.
 #![tactic(auto)]
 
