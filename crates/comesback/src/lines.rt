@@ -1,4 +1,5 @@
 // Lines of standard input, each answered by `report::verdict_line`, and the totals by `report::totals_line`.
+// `rt`, the line and the totals stay apart: totals are handed on by value, so that what an error ends is not counted.
 ghost use Rattle.std.specs.Prelude.{◌≡◌, OnErr};
 
 use crate::line::Line;

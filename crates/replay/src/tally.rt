@@ -12,7 +12,7 @@ pub struct Counts {
 }
 
 impl Counts {
-    // No line.
+    // No line. The name says what it is, as `default()` would not.
     const NONE: Counts = Counts {
         compared: [0; 3],
         different: 0,
@@ -37,7 +37,7 @@ pub struct Tally {
 }
 
 impl Tally {
-    // Nothing counted.
+    // Nothing counted. No Default, since `Counts` has none.
     pub(crate) fn new() -> Tally {
         Tally {
             counts: [Counts::NONE; COUNT],
