@@ -8,8 +8,8 @@ function, behind its type's where it is a method, as `matrix2_order`; where a de
 `_lem` at its end, as `move_vectors_lem`. The methods and the constants of a public trait have a line for each record;
 a generic function has one for every type, and may have more, each at one type. This script checks that none is missing. It fails where a public function has
 no line, or a line that speaks of another promise; where parameters are lent by `&mut` and the line leaves one of them
-out; where a public function has a `requires`, other than that its closure may be called; where it can't read a public function; and where it finds none at all, or no
-export.
+out; where a public function has a `requires`, other than that its closure may be called; where it can't read a public
+function; and where it finds none at all, or no export.
 
 The exports stand for themselves: a static library's crate NAME_c is held to the library NAME word for word. It fails
 unless both have the same public functions, by module, with the same parameters, answers and clauses.

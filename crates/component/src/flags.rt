@@ -77,7 +77,7 @@ impl Flags {
             + 4 * usize::from(self.four_scales())
     }
 
-    // How many bytes the record takes. No enum of the kinds of scale: the size is promised of any flags, where several may be set. No enum of the kinds of scale: the size is promised of any flags, where several may be set.
+    // How many bytes the record takes. No enum of the kinds of scale: the size is promised of any flags, where several may be set.
     pub(crate) fn size(self) -> usize
         ensures { result ≡ record_size self.0 }
     {
