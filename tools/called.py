@@ -3,8 +3,10 @@
 
 Usage: tools/called.py        it runs `rt check --list-calls` in the programs, the boundary and its exports, which proves them where they are not proved yet
 
-- Every public function of the libraries is called by `cases`, `replay`, `comesback` or `records`; a method of a public
-  trait by one of these at some record, or by a body of a trait.
+- Every public function of the libraries is called by `cases`, `replay`, `comesback`, `records` or `entrywise`.
+- Every method and constant of a public trait is used by one of these at each record that has it, and so is every
+  conversion between two records. A program's sources name it too, unless it is a step of another function of its crate
+  (`map`, `zip`, `inverse_by`, ..), which names it. What vectors and matrices both have is named once for each.
 - The in-place swaps are called by functions of the boundary.
 - Every function of the boundary is handed on by its exports, crates/migthumo_c.
 - Every export is called by the C program, include/test/migthumo_test.c.
@@ -19,7 +21,9 @@ import re
 import subprocess
 import sys
 
-PROGRAMS = ["cases", "replay", "comesback", "records"]
+PROGRAMS = ["cases", "replay", "comesback", "records", "entrywise"]
+# where the programs call the operations of vectors, and of nothing else
+OF_VECTORS = ["crates/replay/src/vectors.rt", "crates/entrywise/src/main.rt"]
 IN_PLACE = ["matrix::Matrix4::swap_rows_mut", "matrix::Matrix4::swap_columns_mut", "matrix::Matrix4::swap_elements_mut"]
 BOUNDARY = "migthumo"
 EXPORTS = "migthumo_c"
@@ -56,13 +60,39 @@ def public(crate):
     return names
 
 
-def of_traits(crate):
-    """Each method of the crate's public traits: the trait, the method, and whether a body of the trait itself calls it."""
-    for path in sorted(glob.glob(f"crates/{crate}/src/**/*.rt", recursive=True)):
-        text = re.sub(r"//[^\n]*", "", open(path, encoding="utf-8").read())
-        for trait, body in re.findall(r"^pub trait (\w+)[^{]*\{(.*?)^\}", text, re.M | re.S):
-            for name in re.findall(r"^    fn (\w+)", body, re.M):
-                yield trait, name, re.search(rf"(?:\.|::){name}\(", body) is not None
+def source(path):
+    """A file's text without comments and texts."""
+    return re.sub(r"//[^\n]*|b?\"(?:\\.|[^\"\\])*\"|b'(?:\\.|[^'\\])'", "", open(path, encoding="utf-8").read())
+
+
+def sources(crate):
+    """The crate's files, each path with its text."""
+    return {path: source(path) for path in sorted(glob.glob(f"crates/{crate}/src/**/*.rt", recursive=True))}
+
+
+def of_traits(crates):
+    """The public traits of the crates: each one's crate, and the names of its methods and constants."""
+    found = {}
+    for crate in crates:
+        for text in sources(crate).values():
+            for trait, body in re.findall(r"^pub trait (\w+)[^{]*\{(.*?)^\}", text, re.M | re.S):
+                found[trait] = (crate, re.findall(r"^    (?:fn|const) (\w+)", body, re.M))
+    return found
+
+
+def at_records(crate, traits):
+    """Each method and constant of a public trait at each record of the crate that has it, and each conversion: the compiler's name, the trait, the method."""
+    for text in sources(crate).values():
+        for origin, record in re.findall(r"^impl From<(\w+)> for (\w+)", text, re.M):
+            yield f"{crate}::{record}From{origin}::from", None, "from"
+        for trait, number, record in re.findall(r"^impl (\w+)(?:<(\d+)>)? for (\w+)", text, re.M):
+            for name in traits.get(trait, (None, []))[1]:
+                yield f"{crate}::{record}{trait}{number}::{name}", trait, name
+
+
+def named(name, texts):
+    """Whether one of the texts calls the function, or uses the constant, by name."""
+    return any(re.search(rf"(?:\.|::){name}\b(?!\s*:)", text) for text in texts)
 
 
 def calls(crate):
@@ -138,12 +168,23 @@ def main():
     for name in functions:
         if name not in IN_PLACE and name not in by_programs:
             bad.append(f"{name} is called by neither {' nor '.join(PROGRAMS)}")
-    # a method of a trait is called at one record at least, or by another method of a trait; an impl's name is the record's, the trait's and its numbers
-    methods = [(crate, *method) for crate in libraries() for method in of_traits(crate)]
-    called_at = {re.sub(r"^\w+::[A-Z]\w*?[234]([A-Z]\w*?)\d*::", r"\1::", name) for name in by_programs}
-    for crate, trait, name, by_trait in methods:
-        if f"{trait}::{name}" not in called_at and not by_trait:
-            bad.append(f"{name} of {crate}'s trait {trait} is called by neither {' nor '.join(PROGRAMS)}")
+    traits = of_traits(libraries())
+    of_programs = {path: text for program in PROGRAMS for path, text in sources(program).items()}
+    of_vectors = [of_programs.get(path, "") for path in OF_VECTORS]
+    at = [(crate, *found) for crate in libraries() for found in at_records(crate, traits)]
+    if not at:
+        sys.exit("there is no record of a public trait")
+    for crate, name, trait, method in at:
+        if name not in by_programs:
+            bad.append(f"{name} is used by neither {' nor '.join(PROGRAMS)}")
+        if trait is None:
+            continue
+        # a step of another function: its own crate's sources, or the trait's, name it on a record
+        steps = [text for c in (crate, traits[trait][0]) for text in sources(c).values()]
+        step = any(re.search(rf"(?:\bself\.|\bSelf::|\bm\.|\b[MV]::){method}\b(?!\s*:)", text) for text in steps)
+        texts = of_vectors if crate == "vector" else of_programs.values()
+        if not named(method, texts) and not step:
+            bad.append(f"{name} is named by none of the programs, and is no step of another function")
     handed_on, exported, by_exports = public(BOUNDARY), public(EXPORTS), calls(EXPORTS)
     bad += [f"{name} is not called by {EXPORTS}" for name in handed_on if name not in by_exports]
     bad += [f"{f} of {BOUNDARY}, as far as the sources show" for f in unreached(BOUNDARY, [name.split("::")[-1] for name in handed_on])]
@@ -157,7 +198,7 @@ def main():
             bad.append(f"{name} is not called by {C_PROGRAM}")
     for line in bad:
         print("NOT CALLED:", line)
-    print(f"{len(functions)} public functions of the libraries, {len(exported)} of the boundary, {len(bad)} not called")
+    print(f"{len(functions)} public functions of the libraries, {len(at)} of their traits at the records, {len(exported)} of the boundary, {len(bad)} not called")
     sys.exit(1 if bad or not functions or not exported else 0)
 
 

@@ -18,6 +18,10 @@ pub order_taken : (least order : ℕ) → least ≤ order → order ≤ 4 → or
 unfolding order_from
 order_taken least order low high = simp (le-leb least order low, le-leb order 4 high)
 
+pub order_low : (least order : ℕ) → order < least → order_from least order ≡ refused_for Order
+unfolding order_from
+order_low least order low = simp (lt-leb least order low)
+
 pub order_high : (least order : ℕ) → least ≤ order → 4 < order → order_from least order ≡ refused_for Order
 unfolding order_from
 order_high least order low high = simp (le-leb least order low, lt-leb order 4 high)

@@ -1,6 +1,6 @@
 // Lines of standard input, each answered by `report::verdict_line`, and the totals by `report::totals_line`.
 // `rt`, the line and the totals stay apart: totals are handed on by value, so that what an error ends is not counted.
-ghost use Rattle.std.specs.Prelude.{◌≡◌, OnErr};
+ghost use Rattle.std.specs.Prelude.{◌≡◌, false, IfOk, OnErr};
 
 use crate::line::Line;
 use crate::output;
@@ -32,7 +32,8 @@ fn end(rt: &impl Print, line: &Line, totals: Totals) -> io::Result<Totals> {
 
 // A byte of the input.
 fn byte(rt: &impl Print, line: &mut Line, totals: Totals, value: u8) -> io::Result<Totals>
-    ensures { OnErr result (line.new ≡ line.old) }
+    ensures ended { IfOk result (λ _. value ≡ 10 → (line.new.at ≡ 0) × (line.new.long ≡ false)) }
+    ensures kept { OnErr result (line.new ≡ line.old) }
 {
     if value != b'\n' {
         line.push(value);

@@ -78,7 +78,7 @@ module _ (n k : ℕ) (few : n ≤ 4) (m w : Matrix) (c r : ℕ) (less : k ≡ n 
 
   -- it is at most 24 * 2 ^ 40
   sum_le : nat_abs (exact_signed_sum k w) ≤ 24 * 2 ^ 40
-  sum_le = let h : k ≤ 4 = rw less (le_trans three (lit≤ tt)) in le_trans (signed_sum_le 1024 k w (small_below k w h small)) (mul-le-mul (few_rows k h) (power_le k h))
+  sum_le = let h : k ≤ 4 = rw less (le_trans three (lit≤ tt)) in le_trans (signed_sum_le 1024 k w (small_below k 4 w h small)) (mul-le-mul (few_rows k h) (power_le k h))
 
   -- ---- its sign
   -- the sum z as it was answered, and its negative as the code makes it

@@ -23,8 +23,8 @@ unfolding product
 product_ext zero h = refl
 product_ext (suc n) h = ap₂ (λ (x y : ℤ). x *ℤ y) (h 0 (zero-lt-suc n)) (product_ext n (λ i l. h (suc i) (suc-le-suc l)))
 
--- a matrix with small entries, and an order of n columns
-module _ (n : ℕ) (few : n ≤ 4) (m : Matrix) (small : Small 4 m) (cs : List ℕ) (order : Order n (take n cs)) where
+-- a matrix with small entries below the order n, and an order of n columns
+module _ (n : ℕ) (few : n ≤ 4) (m : Matrix) (small : Small n m) (cs : List ℕ) (order : Order n (take n cs)) where
   -- the factor of row r
   abbrev pub factor : ℕ → ℤ
   factor r = m (get_or cs r 0) r
@@ -37,7 +37,7 @@ module _ (n : ℕ) (few : n ≤ 4) (m : Matrix) (small : Small 4 m) (cs : List �
 
   -- the factor is small
   pub factor_le : (r : ℕ) → r < n → nat_abs (factor r) ≤ 1024
-  factor_le r h = small (get_or cs r 0) r (lt_of_lt_of_le (column_below_lem r h) few) (lt_of_lt_of_le h few)
+  factor_le r h = small (get_or cs r 0) r (column_below_lem r h) h
 
   -- the product of the first factors is at most 2 ^ 40
   pub factors_le : (k : ℕ) → k ≤ n → nat_abs (product k factor) ≤ 2 ^ 40

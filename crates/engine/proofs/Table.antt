@@ -91,14 +91,14 @@ part_row n i h =
     ∙ ap (first n) (get_or-take (factorial n) table i ([], pos 0) h ∙ get_or-map as_row rows i (row [] (pos 0)))
 
 -- a smaller order has small entries too
-pub small_below : (n : ℕ) (m : Matrix) → n ≤ 4 → Small 4 m → Small n m
-small_below n m h small c r a b = small c r (lt_of_lt_of_le a h) (lt_of_lt_of_le b h)
+pub small_below : (k n : ℕ) (m : Matrix) → k ≤ n → Small n m → Small k m
+small_below k n m h small c r a b = small c r (lt_of_lt_of_le a h) (lt_of_lt_of_le b h)
 
--- a matrix with small entries
-module _ (n : ℕ) (few : n ≤ 4) (m : Matrix) (small : Small 4 m) where
+-- a matrix with small entries below the order n
+module _ (n : ℕ) (few : n ≤ 4) (m : Matrix) (small : Small n m) where
   -- no partial sum passes 24 * 2 ^ 40
   pub partial_le : (k : ℕ) → k ≤ 24 → nat_abs (table_sum m (take k (part n table))) ≤ 24 * 2 ^ 40
-  partial_le k h = le_trans (rows_le 1024 n m (small_below n m few small) (part n table) (orders_held n few) k) (mul-le-mul h (power_le n few))
+  partial_le k h = le_trans (rows_le 1024 n m small (part n table) (orders_held n few) k) (mul-le-mul h (power_le n few))
 
   -- a row of the table
   module _ (i : ℕ) (inside : i < factorial n) where
@@ -122,7 +122,7 @@ module _ (n : ℕ) (few : n ≤ 4) (m : Matrix) (small : Small 4 m) where
 
     -- and its term is at most 2 ^ 40
     pub term_le : nat_abs term ≤ 2 ^ 40
-    term_le = of_row (λ row. nat_abs (row.1 *ℤ down_rows m (columns row)) ≤ 2 ^ 40) (λ row at. le_trans (row_le 1024 n m (small_below n m few small) (part n table) (orders_held n few) row at) (power_le n few))
+    term_le = of_row (λ row. nat_abs (row.1 *ℤ down_rows m (columns row)) ≤ 2 ^ 40) (λ row at. le_trans (row_le 1024 n m small (part n table) (orders_held n few) row at) (power_le n few))
 
     -- one row more adds its term
     pub one_more : table_sum m (take (suc i) (part n table)) ≡ table_sum m (take i (part n table)) +ℤ term

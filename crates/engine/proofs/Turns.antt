@@ -11,8 +11,8 @@ use Rattle.engine.specs.Whole.{Small}
 use Rattle.engine.proofs.Signed.{back, small_fits, small_back}
 use Rattle.engine.proofs.Table.{few_rows, partial_le, term, sign_le, term_le, one_more}
 
--- a matrix with small entries, and row i of the table with its product down the rows, as they were answered
-module _ (n : ℕ) (few : n ≤ 4) (m : Matrix) (small : Small 4 m) (i : ℕ) (inside : i < factorial n)
+-- a matrix with small entries below the order n, and row i of the table with its product down the rows, as they were answered
+module _ (n : ℕ) (few : n ≤ 4) (m : Matrix) (small : Small n m) (i : ℕ) (inside : i < factorial n)
     (o : Order) (is : o ≡ order_at i) (down : ℤ) (down_is : down ≡ down_rows m (take n o.0)) (down-range : mag down < 2 ^ 63) where
   -- the term, as the code multiplies
   abbrev pub made : ℤ

@@ -43,7 +43,8 @@ fn is_whole(x: f64) -> bool
         && std::num::nearest_i64_to_f64(std::num::truncating_f64_to_i64(x)) == x
 }
 
-// The whole number that the entry is, -0.0 being 0, or refusal 6.
+// The whole number that the entry is, -0.0 being 0, or refusal 6. Inlined, as its column is: called, they made a refused matrix cost up to twice as much.
+#[inline(always)]
 #[tactic(auto, using(crate::proofs::Taken::cut_above, crate::proofs::Taken::cut_under))]
 fn whole_number(x: f64) -> Result<i64, Refusal>
     ensures { Tested (is_whole 1024 x) (whole_number x) result }
@@ -56,6 +57,7 @@ fn whole_number(x: f64) -> Result<i64, Refusal>
 }
 
 // The whole numbers of a column. By name, here and in the next: `try_map` promises of each call apart, and would want an answer file where these want none.
+#[inline(always)]
 fn column_numbers(v: Vector4) -> Result<[i64; 4], Refusal>
     ensures { Tested (all_below 4 (λ i. is_whole 1024 (entry (entries4 v) i))) (map whole_number (entries4 v)) result }
 {

@@ -72,6 +72,21 @@ pub trait SquareMatrix: VectorSpace {
     ghost there_and_back: { (m : Self) → of_array (array m) ≡ m };
 }
 
+// The constants stand on each record too, since the value of a constant can name these, and not those of a trait.
+impl Matrix2 {
+    // Every entry 0.
+    pub const ZERO: Matrix2 = Matrix2 {
+        x: Vector2 { x: 0.0, y: 0.0 },
+        y: Vector2 { x: 0.0, y: 0.0 },
+    };
+
+    // 1 down the diagonal, 0 elsewhere.
+    pub const IDENTITY: Matrix2 = Matrix2 {
+        x: Vector2 { x: 1.0, y: 0.0 },
+        y: Vector2 { x: 0.0, y: 1.0 },
+    };
+}
+
 impl SquareMatrix for Matrix2 {
     type Column = Vector2;
 
@@ -101,15 +116,9 @@ impl SquareMatrix for Matrix2 {
 
     const ORDER: usize = 2;
 
-    const ZERO: Matrix2 = Matrix2 {
-        x: Vector2 { x: 0.0, y: 0.0 },
-        y: Vector2 { x: 0.0, y: 0.0 },
-    };
+    const ZERO: Matrix2 = Matrix2::ZERO;
 
-    const IDENTITY: Matrix2 = Matrix2 {
-        x: Vector2 { x: 1.0, y: 0.0 },
-        y: Vector2 { x: 0.0, y: 1.0 },
-    };
+    const IDENTITY: Matrix2 = Matrix2::IDENTITY;
 
     fn from_diagonal(value: Vector2) -> Matrix2 {
         Matrix2::from_array([[value.x, 0.0], [0.0, value.y]])
@@ -124,6 +133,46 @@ impl SquareMatrix for Matrix2 {
     fn mul(self, other: Matrix2) -> Matrix2 {
         Matrix2::from_cols(self.mul_vector(other.x), self.mul_vector(other.y))
     }
+}
+
+impl Matrix3 {
+    // Every entry 0.
+    pub const ZERO: Matrix3 = Matrix3 {
+        x: Vector3 {
+            x: 0.0,
+            y: 0.0,
+            z: 0.0,
+        },
+        y: Vector3 {
+            x: 0.0,
+            y: 0.0,
+            z: 0.0,
+        },
+        z: Vector3 {
+            x: 0.0,
+            y: 0.0,
+            z: 0.0,
+        },
+    };
+
+    // 1 down the diagonal, 0 elsewhere.
+    pub const IDENTITY: Matrix3 = Matrix3 {
+        x: Vector3 {
+            x: 1.0,
+            y: 0.0,
+            z: 0.0,
+        },
+        y: Vector3 {
+            x: 0.0,
+            y: 1.0,
+            z: 0.0,
+        },
+        z: Vector3 {
+            x: 0.0,
+            y: 0.0,
+            z: 1.0,
+        },
+    };
 }
 
 impl SquareMatrix for Matrix3 {
@@ -155,41 +204,9 @@ impl SquareMatrix for Matrix3 {
 
     const ORDER: usize = 3;
 
-    const ZERO: Matrix3 = Matrix3 {
-        x: Vector3 {
-            x: 0.0,
-            y: 0.0,
-            z: 0.0,
-        },
-        y: Vector3 {
-            x: 0.0,
-            y: 0.0,
-            z: 0.0,
-        },
-        z: Vector3 {
-            x: 0.0,
-            y: 0.0,
-            z: 0.0,
-        },
-    };
+    const ZERO: Matrix3 = Matrix3::ZERO;
 
-    const IDENTITY: Matrix3 = Matrix3 {
-        x: Vector3 {
-            x: 1.0,
-            y: 0.0,
-            z: 0.0,
-        },
-        y: Vector3 {
-            x: 0.0,
-            y: 1.0,
-            z: 0.0,
-        },
-        z: Vector3 {
-            x: 0.0,
-            y: 0.0,
-            z: 1.0,
-        },
-    };
+    const IDENTITY: Matrix3 = Matrix3::IDENTITY;
 
     fn from_diagonal(value: Vector3) -> Matrix3 {
         Matrix3::from_array([
@@ -212,6 +229,64 @@ impl SquareMatrix for Matrix3 {
             self.mul_vector(other.z),
         )
     }
+}
+
+impl Matrix4 {
+    // Every entry 0.
+    pub const ZERO: Matrix4 = Matrix4 {
+        x: Vector4 {
+            x: 0.0,
+            y: 0.0,
+            z: 0.0,
+            w: 0.0,
+        },
+        y: Vector4 {
+            x: 0.0,
+            y: 0.0,
+            z: 0.0,
+            w: 0.0,
+        },
+        z: Vector4 {
+            x: 0.0,
+            y: 0.0,
+            z: 0.0,
+            w: 0.0,
+        },
+        w: Vector4 {
+            x: 0.0,
+            y: 0.0,
+            z: 0.0,
+            w: 0.0,
+        },
+    };
+
+    // 1 down the diagonal, 0 elsewhere.
+    pub const IDENTITY: Matrix4 = Matrix4 {
+        x: Vector4 {
+            x: 1.0,
+            y: 0.0,
+            z: 0.0,
+            w: 0.0,
+        },
+        y: Vector4 {
+            x: 0.0,
+            y: 1.0,
+            z: 0.0,
+            w: 0.0,
+        },
+        z: Vector4 {
+            x: 0.0,
+            y: 0.0,
+            z: 1.0,
+            w: 0.0,
+        },
+        w: Vector4 {
+            x: 0.0,
+            y: 0.0,
+            z: 0.0,
+            w: 1.0,
+        },
+    };
 }
 
 impl SquareMatrix for Matrix4 {
@@ -243,59 +318,9 @@ impl SquareMatrix for Matrix4 {
 
     const ORDER: usize = 4;
 
-    const ZERO: Matrix4 = Matrix4 {
-        x: Vector4 {
-            x: 0.0,
-            y: 0.0,
-            z: 0.0,
-            w: 0.0,
-        },
-        y: Vector4 {
-            x: 0.0,
-            y: 0.0,
-            z: 0.0,
-            w: 0.0,
-        },
-        z: Vector4 {
-            x: 0.0,
-            y: 0.0,
-            z: 0.0,
-            w: 0.0,
-        },
-        w: Vector4 {
-            x: 0.0,
-            y: 0.0,
-            z: 0.0,
-            w: 0.0,
-        },
-    };
+    const ZERO: Matrix4 = Matrix4::ZERO;
 
-    const IDENTITY: Matrix4 = Matrix4 {
-        x: Vector4 {
-            x: 1.0,
-            y: 0.0,
-            z: 0.0,
-            w: 0.0,
-        },
-        y: Vector4 {
-            x: 0.0,
-            y: 1.0,
-            z: 0.0,
-            w: 0.0,
-        },
-        z: Vector4 {
-            x: 0.0,
-            y: 0.0,
-            z: 1.0,
-            w: 0.0,
-        },
-        w: Vector4 {
-            x: 0.0,
-            y: 0.0,
-            z: 0.0,
-            w: 1.0,
-        },
-    };
+    const IDENTITY: Matrix4 = Matrix4::IDENTITY;
 
     fn from_diagonal(value: Vector4) -> Matrix4 {
         Matrix4::from_array([

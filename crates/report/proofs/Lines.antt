@@ -1,6 +1,6 @@
 -- From what was read to what the line holds, and from what was written to the whole output.
 -- Assumes nothing.
-use Rattle.std.proofs.Common.{◌≡◌, ℕ, zero, suc, ◌-◌, ◌*◌, ◌<◌, ◌≤◌, Bool, true, false, cond, ◌&&◌, eqb, leb, List, [], ◌∷◌, map, length, get_or, pos, nat_abs, sym, refl, ap, ◌∙◌, arith, eq-eqb, ne_eqb, eqb-true, leb-true}
+use Rattle.std.proofs.Common.{◌≡◌, ℕ, zero, suc, ◌+◌, ◌-◌, ◌*◌, ◌<◌, ◌≤◌, min, Bool, true, false, cond, ◌&&◌, eqb, leb, List, [], ◌∷◌, map, length, get_or, pos, nat_abs, sym, refl, ap, ◌∙◌, arith, eq-eqb, ne_eqb, eqb-true, leb-true}
 use lib.Seq.{sets, drop-nil}
 use borrow.Author.Tests.{eqb-false}
 use Rattle.report.specs.declared.write.Page.{Page}
@@ -15,6 +15,15 @@ use Rattle.report.specs.Line.{Line, no_order, other_count, not_whole, matrix, en
 use Rattle.report.specs.Report.{at_start}
 use Rattle.report.proofs.Signs.{fits_small}
 use Rattle.report.proofs.Writing.{sets_past, sets_later}
+
+-- ---- how many words
+
+-- words are counted as far as one more than are due: so many are all there are, and just where there are so many
+pub counted_just : (due n : ℕ) → n ≡ due → min (due + 1) n ≡ due
+counted_just due n e = omega (arith, e)
+
+pub counted_all : (due n : ℕ) → min (due + 1) n ≡ due → n ≡ due
+counted_all due n e = omega (arith, e)
 
 -- ---- the order
 

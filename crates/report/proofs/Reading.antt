@@ -40,6 +40,14 @@ other_length (b ∷ d ∷ w) none = refl
 
 -- ---- the number of some digits, at most 1025
 
+-- a number capped before the digits is capped the same after them
+pub cap : (n : ℕ) (w : Bytes) → min 1025 (value (min 1025 n) w) ≡ min 1025 (value n w)
+unfolding value
+cap n [] = omega arith
+cap n (b ∷ w) =
+    let same_next : min 1025 (min 1025 n * 10 + (b - 48)) ≡ min 1025 (n * 10 + (b - 48)) = omega arith in
+    sym (cap (min 1025 n * 10 + (b - 48)) w) ∙ ap (λ (m : ℕ). min 1025 (value m w)) same_next ∙ cap (n * 10 + (b - 48)) w
+
 -- a digit read
 value_more : (n : ℕ) (w : Bytes) (i : ℕ) → i < length w → value n (take (suc i) w) ≡ value n (take i w) * 10 + (get_or w i 0 - 48)
 unfolding value

@@ -43,7 +43,7 @@ pub(crate) fn read_line(line: &[u8]) -> Result<Grid, Fault>
         return Err(Fault::NoOrder);
     };
     let n = order.size();
-    if words.total() != n * n {
+    if words.total(n * n + 1) != n * n {
         return Err(Fault::OtherCount(order));
     }
     entries(order, words)

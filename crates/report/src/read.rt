@@ -22,12 +22,12 @@ impl<'a> Words<'a> {
         Words { line }
     }
 
-    // How many there are.
+    // How many there are, as far as `most`: what stands behind so many is not read.
     #[tactic(auto, using(crate::proofs::Reading::words_few))]
-    pub(crate) fn total(self) -> usize
-        ensures { result ≡ length (words self.entry.line.now) }
+    pub(crate) fn total(self, most: usize) -> usize
+        ensures { result ≡ min most (length (words self.entry.line.now)) }
     {
-        self.count()
+        self.take(most).count()
     }
 }
 
@@ -97,7 +97,7 @@ fn continued(n: u64, byte: u8) -> u64
     requires { n ≤ 1025 }
     ensures { result ≡ min 1025 (n * 10 + (byte - 48)) }
 {
-    (n * 10 + byte.saturating_sub(b'0') as u64).min(LARGEST + 1)
+    (n * 10 + byte.saturating_sub(b'0') as u64).min(1025)
 }
 
 // The number of some digits, at most 1025.

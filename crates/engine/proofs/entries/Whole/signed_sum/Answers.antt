@@ -5,7 +5,7 @@ use Rattle.whole.specs.Order.{Order}
 use Rattle.whole.specs.Claim.{table_sum}
 use Rattle.engine.specs.declared.orders.Order.{Order as Row}
 use Rattle.engine.specs.Whole.{wholes}
-use Rattle.engine.proofs.Table.{row_order, all_rows, handed_count, handed_inside, handed_row}
+use Rattle.engine.proofs.Table.{small_below, row_order, all_rows, handed_count, handed_inside, handed_row}
 use Rattle.engine.proofs.Turns.{made_fits, added_fits, added_back}
 use Rattle.engine.proofs.entries.Whole.signed_sum.Goals as goal
 
@@ -17,25 +17,25 @@ pub down_rows-requires : goal.down_rows-requires
 down_rows-requires c =
     let s = c.args.self.now in
     let h = handed_inside s.order s.few c.orders-order-items.ensures c.loop-order-test.true in
-    subst (λ (o : Row). Order s.order (take s.order o.0)) (sym (handed_row s.order _ c.orders-order-items.ensures h)) (row_order s.order s.few (wholes s.numbers) s.small _ h)
+    subst (λ (o : Row). Order s.order (take s.order o.0)) (sym (handed_row s.order _ c.orders-order-items.ensures h)) (row_order s.order s.few (wholes s.numbers) (small_below _ 4 (wholes s.numbers) s.few s.small) _ h)
 
 pub overflow_mul-sum : goal.overflow_mul-sum
 overflow_mul-sum c =
     let s = c.args.self.now in
     let h = handed_inside s.order s.few c.orders-order-items.ensures c.loop-order-test.true in
-    made_fits s.order s.few (wholes s.numbers) s.small _ h _ (handed_row s.order _ c.orders-order-items.ensures h) _ c.down_rows.ensures c.down_rows.type_inv
+    made_fits s.order s.few (wholes s.numbers) (small_below _ 4 (wholes s.numbers) s.few s.small) _ h _ (handed_row s.order _ c.orders-order-items.ensures h) _ c.down_rows.ensures c.down_rows.type_inv
 
 pub overflow_add-sum : goal.overflow_add-sum
 overflow_add-sum c =
     let s = c.args.self.now in
     let h = handed_inside s.order s.few c.orders-order-items.ensures c.loop-order-test.true in
-    added_fits s.order s.few (wholes s.numbers) s.small _ h _ (handed_row s.order _ c.orders-order-items.ensures h) _ c.down_rows.ensures c.down_rows.type_inv c.loop-order.sum-bits c.loop-order.invariant
+    added_fits s.order s.few (wholes s.numbers) (small_below _ 4 (wholes s.numbers) s.few s.small) _ h _ (handed_row s.order _ c.orders-order-items.ensures h) _ c.down_rows.ensures c.down_rows.type_inv c.loop-order.sum-bits c.loop-order.invariant
 
 pub loop-order-preserved : goal.loop-order-preserved
 loop-order-preserved c =
     let s = c.args.self.now in
     let h = handed_inside s.order s.few c.orders-order-items.ensures c.loop-order-test.true in
-    rw add-one (added_back s.order s.few (wholes s.numbers) s.small _ h _ (handed_row s.order _ c.orders-order-items.ensures h) _ c.down_rows.ensures c.down_rows.type_inv c.loop-order.sum-bits c.loop-order.invariant)
+    rw add-one (added_back s.order s.few (wholes s.numbers) (small_below _ 4 (wholes s.numbers) s.few s.small) _ h _ (handed_row s.order _ c.orders-order-items.ensures h) _ c.down_rows.ensures c.down_rows.type_inv c.loop-order.sum-bits c.loop-order.invariant)
 
 pub returns : goal.returns
 returns c =
