@@ -5,8 +5,8 @@ Usage: tools/called.py        it runs `rt check --list-calls` in the programs, t
 
 - Every public function of the libraries is called by `cases`, `replay`, `comesback`, `records` or `entrywise`.
 - Every method and constant of a public trait is used by one of these at each record that has it, and so is every
-  conversion between two records. A program's sources name it too, unless it is a step of another function of its crate
-  (`map`, `zip`, `inverse_by`, ..), which names it. What vectors and matrices both have is named once for each.
+  conversion between two records. A program's sources name it too, unless it is a step of a library's own function (`map`,
+  `zip`, `inverse_by`, ..), which names it. What vectors and matrices both have is named once for each.
 - The in-place swaps are called by functions of the boundary.
 - Every function of the boundary is handed on by its exports, crates/migthumo_c.
 - Every export is called by the C program, include/test/migthumo_test.c.
@@ -170,6 +170,8 @@ def main():
             bad.append(f"{name} is called by neither {' nor '.join(PROGRAMS)}")
     traits = of_traits(libraries())
     of_programs = {path: text for program in PROGRAMS for path, text in sources(program).items()}
+    # a step of another function: the sources of a library name it on a record
+    of_libraries = [text for crate in libraries() for text in sources(crate).values()]
     of_vectors = [of_programs.get(path, "") for path in OF_VECTORS]
     at = [(crate, *found) for crate in libraries() for found in at_records(crate, traits)]
     if not at:
@@ -179,9 +181,7 @@ def main():
             bad.append(f"{name} is used by neither {' nor '.join(PROGRAMS)}")
         if trait is None:
             continue
-        # a step of another function: its own crate's sources, or the trait's, name it on a record
-        steps = [text for c in (crate, traits[trait][0]) for text in sources(c).values()]
-        step = any(re.search(rf"(?:\bself\.|\bSelf::|\bm\.|\b[MV]::){method}\b(?!\s*:)", text) for text in steps)
+        step = any(re.search(rf"(?:\bself\.|\bSelf::|\bColumn::|\bm\.|\b[MV]::){method}\b(?!\s*:)", text) for text in of_libraries)
         texts = of_vectors if crate == "vector" else of_programs.values()
         if not named(method, texts) and not step:
             bad.append(f"{name} is named by none of the programs, and is no step of another function")
