@@ -5,8 +5,8 @@ Usage: tools/called.py        it runs `rt check --list-calls` in the programs, t
 
 - Every public function of the libraries is called by `cases`, `replay`, `comesback`, `records` or `entrywise`.
 - Every method and constant of a public trait is used by one of these at each record that has it, and so is every
-  conversion between two records. A program's sources name it too, unless it is a step of a library's own function (`map`,
-  `zip`, `inverse_by`, ..), which names it. What vectors and matrices both have is named once for each.
+  conversion between two records. A function of a program names it and the record, or names it and is generic over
+  vectors or over matrices, unless it is a step of a library's own function (`map`, `zip`, `inverse_by`, ..), which names it.
 - The in-place swaps are called by functions of the boundary.
 - Every function of the boundary is handed on by its exports, crates/migthumo_c.
 - Every export is called by the C program, include/test/migthumo_test.c.
@@ -22,8 +22,8 @@ import subprocess
 import sys
 
 PROGRAMS = ["cases", "replay", "comesback", "records", "entrywise"]
-# where the programs call the operations of vectors, and of nothing else
-OF_VECTORS = ["crates/replay/src/vectors.rt", "crates/entrywise/src/main.rt"]
+# the type parameters of a program's functions that go over every vector, and over every matrix
+GENERIC = {"vector": r"\bV: ", "matrix": r"\bM: ", "engine": r"\bM: "}
 IN_PLACE = ["matrix::Matrix4::swap_rows_mut", "matrix::Matrix4::swap_columns_mut", "matrix::Matrix4::swap_elements_mut"]
 BOUNDARY = "migthumo"
 EXPORTS = "migthumo_c"
@@ -81,18 +81,19 @@ def of_traits(crates):
 
 
 def at_records(crate, traits):
-    """Each method and constant of a public trait at each record of the crate that has it, and each conversion: the compiler's name, the trait, the method."""
+    """Each method and constant of a public trait at each record of the crate that has it, and each conversion: the compiler's name, the trait, the method, the record."""
     for text in sources(crate).values():
         for origin, record in re.findall(r"^impl From<(\w+)> for (\w+)", text, re.M):
-            yield f"{crate}::{record}From{origin}::from", None, "from"
+            yield f"{crate}::{record}From{origin}::from", None, "from", record
         for trait, number, record in re.findall(r"^impl (\w+)(?:<(\d+)>)? for (\w+)", text, re.M):
             for name in traits.get(trait, (None, []))[1]:
-                yield f"{crate}::{record}{trait}{number}::{name}", trait, name
+                yield f"{crate}::{record}{trait}{number}::{name}", trait, name, record
 
 
-def named(name, texts):
-    """Whether one of the texts calls the function, or uses the constant, by name."""
-    return any(re.search(rf"(?:\.|::){name}\b(?!\s*:)", text) for text in texts)
+def named(name, record, crate, texts):
+    """Whether one of the functions' texts calls the function, or uses the constant, by name, and speaks of the record or of every such one."""
+    of_it = re.compile(rf"\b{record}\b|{GENERIC[crate]}")
+    return any(re.search(rf"(?:\.|::){name}\b(?!\s*:)", text) and of_it.search(text) for text in texts)
 
 
 def calls(crate):
@@ -169,22 +170,20 @@ def main():
         if name not in IN_PLACE and name not in by_programs:
             bad.append(f"{name} is called by neither {' nor '.join(PROGRAMS)}")
     traits = of_traits(libraries())
-    of_programs = {path: text for program in PROGRAMS for path, text in sources(program).items()}
+    of_programs = [text for program in PROGRAMS for text in bodies(program)[0].values()]
     # a step of another function: the sources of a library name it on a record
     of_libraries = [text for crate in libraries() for text in sources(crate).values()]
-    of_vectors = [of_programs.get(path, "") for path in OF_VECTORS]
     at = [(crate, *found) for crate in libraries() for found in at_records(crate, traits)]
     if not at:
         sys.exit("there is no record of a public trait")
-    for crate, name, trait, method in at:
+    for crate, name, trait, method, record in at:
         if name not in by_programs:
             bad.append(f"{name} is used by neither {' nor '.join(PROGRAMS)}")
         if trait is None:
             continue
         step = any(re.search(rf"(?:\bself\.|\bSelf::|\bColumn::|\bm\.|\b[MV]::){method}\b(?!\s*:)", text) for text in of_libraries)
-        texts = of_vectors if crate == "vector" else of_programs.values()
-        if not named(method, texts) and not step:
-            bad.append(f"{name} is named by none of the programs, and is no step of another function")
+        if not named(method, record, crate, of_programs) and not step:
+            bad.append(f"{name} is named at that record by none of the programs, and is no step of another function")
     handed_on, exported, by_exports = public(BOUNDARY), public(EXPORTS), calls(EXPORTS)
     bad += [f"{name} is not called by {EXPORTS}" for name in handed_on if name not in by_exports]
     bad += [f"{f} of {BOUNDARY}, as far as the sources show" for f in unreached(BOUNDARY, [name.split("::")[-1] for name in handed_on])]

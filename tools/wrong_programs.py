@@ -17,10 +17,11 @@ import tempfile
 
 # function: [(what is wrong, old text, new text), ..]; `{n}` stands for each order or length named in the pattern.
 # `VectorSpace::add` is a trait's own body, and `VectorSpace@Vector2::map` that of the record's impl, with the trait's argument
-# where it has one: `Store<f64>@Vector2::put`
+# where it has one: `Store<f64>@Vector2::put`. A constant's value stands for a body: `SquareMatrix@Matrix2::ORDER`
 WRONG = {
     "vector": {
         "lib.rt Vector{234}::new": [("two entries exchanged", "{ x, y", "{ x: y, y: x"), ("an entry fixed at 0", "{ x,", "{ x: 0.0,")],
+        "lib.rt Vector@Vector{234}::LENGTH": [("one more", "{n}", "{n} + 1"), ("one less", "{n}", "{n} - 1")],
         "lib.rt VectorSpace@Vector{234}::map": [("two entries exchanged", "f(self.x), f(self.y)", "f(self.y), f(self.x)"), ("one entry left as it is", "f(self.y)", "self.y")],
         "lib.rt VectorSpace@Vector{234}::zip": [("an entry of the other for its neighbour", "other.y", "other.x"), ("one entry of the left side alone", "f(self.x, other.x)", "self.x")],
         "space.rt VectorSpace::add": [("the difference", "x + y", "x - y"), ("the left side twice", "x + y", "x + x")],
@@ -40,6 +41,9 @@ WRONG = {
         "refusal.rt Refusal::place": [("a row's place lost", "Refusal::Column(place) | Refusal::Row(place)", "Refusal::Column(place)"), ("a place where there is none", "_ => None", "_ => Some(Place::First)")],
     },
     "matrix": {
+        "square.rt SquareMatrix@Matrix{234}::ORDER": [("one more", "{n}", "{n} + 1"), ("another number", "{n}", "5")],
+        "square.rt SquareMatrix@Matrix{234}::ZERO": [("the identity", "ZERO", "IDENTITY")],
+        "square.rt SquareMatrix@Matrix{234}::IDENTITY": [("zero", "IDENTITY", "ZERO")],
         "records.rt Matrix{234}::new": [("two entries exchanged", "Vector{n}::new(c0r0, c0r1", "Vector{n}::new(c0r1, c0r0"), ("an entry of another column", "c1r0", "c0r0")],
         "records.rt Matrix{234}::from_cols": [("the second column first", "x: c0", "x: c1"), ("the first column twice", "y: c1", "y: c0")],
         "records.rt Matrix{2}::from_scale": [("no scale", "from_value(value)", "from_value(1.0)"), ("twice the scale", "from_value(value)", "from_value(value + value)")],
@@ -66,7 +70,7 @@ WRONG = {
         "places.rt Matrix::swap_rows": [("the second number not tested", "(N, a, b)", "(N, a, a)"), ("nothing exchanged", "a.0, b.0)", "a.0, a.0)")],
         "places.rt Matrix::swap_columns": [("the second number not tested", "(N, a, b)", "(N, a, a)"), ("nothing exchanged", "a.0, b.0)", "a.0, a.0)")],
         "places.rt Matrix::swap_elements": [("the second place not tested", "(N, ac, ar, bc, br)", "(N, ac, ar, ac, ar)"), ("a place read row first", "ac.0, ar.0,", "ar.0, ac.0,")],
-        "in_place.rt Matrix{4}::store": [("leaves the matrix", "*self = answer?;", "let _given = answer?;"), ("always done", "*self = answer?;", "if let Ok(m) = answer {\n            *self = m;\n        }"), ("another refusal", "answer?", "match answer {\n            Ok(m) => m,\n            Err(_) => return Err(Refusal::Singular),\n        }")],
+        "in_place.rt Matrix{4}::store": [("leaves the matrix", "*self = answer?;", "let _given = answer?;"), ("a refusal hands out the identity", "*self = answer?;", "*self = answer.unwrap_or(Matrix4::IDENTITY);"), ("always done", "*self = answer?;", "if let Ok(m) = answer {\n            *self = m;\n        }"), ("another refusal", "answer?", "match answer {\n            Ok(m) => m,\n            Err(_) => return Err(Refusal::Singular),\n        }")],
         "in_place.rt Matrix{4}::swap_rows_mut": [("answers done and leaves the matrix", "self.store(self.swap_rows(a, b))", "let _given = self.swap_rows(a, b)?;\n        Ok(())"), ("the first number twice", "(a, b)", "(a, a)")],
         "in_place.rt Matrix{4}::swap_columns_mut": [("answers done and leaves the matrix", "self.store(self.swap_columns(a, b))", "let _given = self.swap_columns(a, b)?;\n        Ok(())"), ("the first number twice", "(a, b)", "(a, a)")],
         "in_place.rt Matrix{4}::swap_elements_mut": [("answers done and leaves the matrix", "self.store(self.swap_elements(ac, ar, bc, br))", "let _given = self.swap_elements(ac, ar, bc, br)?;\n        Ok(())"), ("the first place twice", "(ac, ar, bc, br)", "(ac, ar, ac, ar)")],
@@ -108,7 +112,7 @@ WRONG = {
         "verdict.rt undoable": [("of the identity", "signed_sum(m)", "signed_sum(M::IDENTITY)"), ("of zero", "signed_sum(m)", "signed_sum(M::ZERO)")],
         "verdict.rt one_bit": [("yes at zero", "== 1", "<= 1"), ("two bits", "== 1", "== 2")],
         "verdict.rt magnitude": [("half of it", "z.unsigned_abs()", "z.unsigned_abs() / 2"), ("zero from zero on", "z.unsigned_abs()", "if z < 0 { z.unsigned_abs() } else { 0 }")],
-        "cofactors.rt cofactor": [("the row is named second, as of another place", "Refusal::Row(Place::First)", "Refusal::Row(Place::Second)"), ("another place", "c.0, r.0)", "r.0, c.0)"), ("another refusal for the place", "Refusal::Column(Place::First)", "Refusal::NotWhole"), ("the order let pass", "M::ORDER <= c.0", "M::ORDER < c.0")],
+        "cofactors.rt cofactor": [("the row is named second, as of another place", "Refusal::Row(Place::First)", "Refusal::Row(Place::Second)"), ("the range test at another order", "M::ORDER <= r.0", "M::ORDER - 1 <= r.0"), ("another place", "c.0, r.0)", "r.0, c.0)"), ("another refusal for the place", "Refusal::Column(Place::First)", "Refusal::NotWhole"), ("the order let pass", "M::ORDER <= c.0", "M::ORDER < c.0")],
         "cofactors.rt Whole::cofactor": [("no sign turned", "{ -minor }", "{ minor }"), ("the minor of another place", "(c, r)", "(r, c)")],
         "cofactors.rt Whole::minor": [("column r left out", "without(self.numbers, c)", "without(self.numbers, r)"), ("of the same order", "self.order - 1", "self.order")],
         "cofactors.rt without": [("one element twice", "kept(n, 1)", "kept(n, 0)"), ("the first kept", "list[kept(n, 0)]", "list[0]")],
@@ -250,7 +254,7 @@ def places():
 
 
 def body_of(text, record, function):
-    """Where the body of a function stands: in an impl of its record that has it, or at the top of the file."""
+    """Where the body of a function stands: in an impl of its record that has it, or at the top of the file; of a constant, its value."""
     if record is None:
         m = re.search(r"^(?:pub(?:\(crate\))? )?(?:extern \"C\" )?fn %s[<(]" % function, text, re.M)
         start = m.end()
@@ -259,6 +263,9 @@ def body_of(text, record, function):
         trait, _, of = record.rpartition("@")
         head = re.escape(f"impl {trait} for {of} {{") if trait else rf"impl(?:<'a>)? {record}(?:<'a>)? {{"
         impl = (re.search(f"^{head}", text, re.M) or re.search(rf"^pub(?:\(crate\))? trait {record}\b", text, re.M)).start()
+        if function.isupper():
+            m = re.compile(r"^    const %s: [^=]*= " % function, re.M).search(text, impl)
+            return m.end(), text.index(";\n", m.end())
         m = re.compile(r"^    (?:pub(?:\(crate\))? )?fn %s[<(]" % function, re.M).search(text, impl)
         start = m.end()
         stop = text.index("\n    }\n", start)

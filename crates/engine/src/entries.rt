@@ -26,7 +26,11 @@ impl Whole {
     pub(crate) fn read<M: Square>(m: M) -> Result<Whole, Refusal>
         ensures { Reads M.ORDER (at (M.array m)) result }
     {
-        let numbers = matrix_numbers(m.cornered())?;
+        let corner = m.cornered();
+        if !whole_entries(corner) {
+            return Err(Refusal::NotWhole);
+        }
+        let numbers = matrix_numbers(corner)?;
         Ok(Whole {
             numbers,
             order: M::ORDER,
@@ -43,7 +47,22 @@ fn is_whole(x: f64) -> bool
         && std::num::nearest_i64_to_f64(std::num::truncating_f64_to_i64(x)) == x
 }
 
-// The whole number that the entry is, -0.0 being 0, or refusal 6. Inlined, as its column is: called, they made a refused matrix cost up to twice as much.
+// Whether every entry of a column is taken.
+fn whole_column(v: Vector4) -> bool
+    ensures { result ≡ all_below 4 (λ i. is_whole 1024 (entry (entries4 v) i)) }
+{
+    is_whole(v.x) && is_whole(v.y) && is_whole(v.z) && is_whole(v.w)
+}
+
+// Whether every entry of the matrix is taken: asked before any is read, so that a matrix that is refused costs its tests alone.
+#[tactic(auto, unfolding(crate::specs::Whole::whole_entries))]
+fn whole_entries(m: Matrix4) -> bool
+    ensures { result ≡ whole_entries 1024 4 (floats4 m) }
+{
+    whole_column(m.x) && whole_column(m.y) && whole_column(m.z) && whole_column(m.w)
+}
+
+// The whole number that the entry is, -0.0 being 0, or refusal 6. Inlined, as its column is: the test is made before, and so twice.
 #[inline(always)]
 #[tactic(auto, using(crate::proofs::Taken::cut_above, crate::proofs::Taken::cut_under))]
 fn whole_number(x: f64) -> Result<i64, Refusal>

@@ -3,4 +3,4 @@ use Rattle.engine.proofs.Outcomes.{numbers_small}
 use Rattle.engine.proofs.entries.Whole.read.Goals as goal
 
 pub invariant_of-result-clause-small : goal.invariant_of-result-clause-small
-invariant_of-result-clause-small g c = rw c.in_ok-numbers.ensures.1 (numbers_small c.cornered.result c.in_ok-numbers.ensures.0)
+invariant_of-result-clause-small g c = rw c.in_ok-numbers.ensures.1 (numbers_small c.cornered-corner.result c.in_ok-numbers.ensures.0)
